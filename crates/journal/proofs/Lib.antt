@@ -1,0 +1,11 @@
+pub mod Parts
+pub mod Tables
+pub mod Reaching
+pub mod Numbers
+pub mod Opens
+pub mod Changes
+pub mod Sources
+pub mod Soundness
+pub mod Latest
+pub mod Conditions
+pub mod Endings

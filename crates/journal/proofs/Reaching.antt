@@ -1,0 +1,19 @@
+-- Histories, one call after another.
+use mathlib.Core.Path.{_≡_, refl, ap, sym, _∙_}
+use mathlib.Core.List.{List, [], _∷_, _++_}
+use mathlib.Core.Logic.{∥∥₁-map}
+use Rattle.journal.specs.History.{History, Call, Reached, history, history-from, after}
+
+pub history-from-append : (h : History) (cs ds : List Call) → history-from h (cs ++ ds) ≡ history-from (history-from h cs) ds
+history-from-append h [] ds = refl
+history-from-append h (c ∷ cs) ds = history-from-append (after h c) cs ds
+
+pub history-append : (cs ds : List Call) → history (cs ++ ds) ≡ history-from (history cs) ds
+history-append cs ds = history-from-append [] cs ds
+
+pub reached-none : (h : History) → h ≡ [] → Reached h
+reached-none h e = ∣ ([], sym e) ∣₁
+
+pub reached-after : (h h′ : History) (c : Call) → h′ ≡ after h c → Reached h → Reached h′
+reached-after h h′ c e r =
+    ∥∥₁-map r (λ p. (p .0 ++ (c ∷ []), history-append (p .0) (c ∷ []) ∙ ap (λ x. after x c) (p .1) ∙ sym e))

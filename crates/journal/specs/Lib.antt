@@ -1,0 +1,9 @@
+pub mod Limits
+pub mod Refusals
+pub mod Marks
+pub mod Transactions
+pub mod History
+pub mod Recorded
+pub mod Admission
+pub mod Calls
+pub mod Rules

@@ -1,0 +1,5 @@
+mod Decoded
+mod Texts
+mod Decimals
+mod Turns
+mod Wholes

@@ -1,0 +1,33 @@
+-- What a whole tape prints.
+use mathlib.Core.Path.{_≡_}
+use mathlib.Core.List.{List, [], _++_}
+use Prim.Native.Nat.{ℕ, _≤_, _<_}
+use lib.ListN.{length}
+use Rattle.journal.specs.declared.refusal.Refusal.the-variants.{NoSuchPlace}
+use Rattle.journal.specs.History.{History}
+use Rattle.tape.specs.declared.decoding.Found.{Found}
+use Rattle.tape.specs.declared.decoding.Found.the-variants.{End, Record, Faulty}
+use Rattle.tape.specs.declared.failure.Failure.{Failure}
+use Rattle.tape.specs.declared.failure.Failure.the-variants.{NoMemory, Refused}
+use Rattle.tape.specs.Limits.{longest-tape}
+use Rattle.tape.specs.Playing.{line-of, history-after, next-place}
+use Rattle.tape.specs.Records.{found-at}
+
+-- The lines that a tape calls for from a place on, where the records before it made the history:
+-- at the tape's end none; else the line of what stands there, and then those from the next place on.
+pub data Lines (tape : List ℕ) : History → ℕ → List ℕ → Type 0 where
+  ended : (h : History) (place : ℕ) → found-at tape place ≡ End → Lines tape h place []
+  played : (h : History) (place : ℕ) (more : List ℕ) → (found-at tape place ≡ End → ⊥) →
+      Lines tape (history-after h (found-at tape place)) (next-place tape place (found-at tape place)) more →
+      Lines tape h place (line-of h (found-at tape place) ++ more)
+
+-- These and no others are the lines of the whole tape, played on a new journal.
+pub record All-lines (tape lines : List ℕ) : Type 0 where
+  pub short : length tape ≤ longest-tape
+  pub due : Lines tape [] 0 lines
+  pub only : (others : List ℕ) → Lines tape [] 0 others → others ≡ lines
+
+-- There are none for want of memory, or since the tape is too long.
+abbrev pub Failed : List ℕ → Failure → Type 0
+Failed tape NoMemory = length tape ≤ longest-tape
+Failed tape (Refused e) = (longest-tape < length tape) × (e ≡ NoSuchPlace)
