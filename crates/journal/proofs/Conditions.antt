@@ -1,7 +1,6 @@
 -- The rules that every history meets.
 use mathlib.Core.Path.{_≡_, sym, _∙_}
 use mathlib.Core.Logic.{inl, inr}
-use mathlib.Core.List.{List}
 use native.Mathlib.Omega.{arith}
 use Prim.Native.Nat.{ℕ, _-_, _≤_}
 use lib.ListN.{length, getD}
@@ -9,14 +8,14 @@ use Rattle.std.proofs.shelf.Elements.{all-from-getD, all-weaker}
 use Rattle.std.proofs.shelf.Tests.{and-parts, both-ways, cases-order}
 use Rattle.journal.specs.Marks.{mark-number}
 use Rattle.journal.specs.Transactions.{is-committed, has-row}
-use Rattle.journal.specs.History.{History, Call, Reached, history, nobody, numbered}
+use Rattle.journal.specs.History.{History, Reached, nobody, numbered}
 use Rattle.journal.specs.Rules.{Rules, Sourced}
 use Rattle.journal.specs.declared.mark.Mark.{Mark}
 use Rattle.journal.specs.declared.mark.Mark.the-variants.{ReadCommitted, ReadAtomic, Causal, Prefix, Snapshot, Serializable}
 use Rattle.journal.specs.declared.transaction.OuterRead.{OuterRead}
 use Rattle.journal.proofs.Opens.{open-at-parts}
 use Rattle.journal.proofs.Sources.{serve-parts}
-use Rattle.journal.proofs.Soundness.{Serves, Sound, sound, sound-reached}
+use Rattle.journal.proofs.Soundness.{Serves, Sound, sound-reached}
 
 mark-within : (m : Mark) → (1 ≤ mark-number m) × (mark-number m ≤ 6)
 mark-within ReadCommitted = omega arith
@@ -53,8 +52,5 @@ rules-of h s =
       sources = all-weaker _ _ (λ t. all-weaker (Serves h) (Sourced h) (sourced h) (t .reads)) h (s .served);
     }
 
-pub rules : (calls : List Call) → Rules (history calls)
-rules calls = rules-of (history calls) (sound calls)
-
-pub rules-reached : (h : History) → Reached h → Rules h
-rules-reached h r = rules-of h (sound-reached h r)
+pub rules : (h : History) → Reached h → Rules h
+rules h r = rules-of h (sound-reached h r)

@@ -2,7 +2,13 @@
 use mathlib.Core.Path.{_≡_, refl, ap, sym, _∙_}
 use mathlib.Core.List.{List, [], _∷_, _++_}
 use mathlib.Core.Logic.{∥∥₁-map}
-use Rattle.journal.specs.History.{History, Call, Reached, history, history-from, after}
+use mathlib.Core.Bool.{true, false}
+use Prim.Native.Nat.{ℕ}
+use Rattle.std.proofs.shelf.Tests.{both-ways}
+use Rattle.journal.specs.Transactions.{is-open}
+use Rattle.journal.specs.History.{History, Call, commit, abort, Reached, history, history-from, after, next, end-at}
+use Rattle.journal.specs.declared.transaction.State.{State}
+use Rattle.journal.specs.declared.transaction.State.the-variants.{Open, Committed, Aborted}
 
 pub history-from-append : (h : History) (cs ds : List Call) → history-from h (cs ++ ds) ≡ history-from (history-from h cs) ds
 history-from-append h [] ds = refl
@@ -17,3 +23,9 @@ reached-none h e = ∣ ([], sym e) ∣₁
 pub reached-after : (h h′ : History) (c : Call) → h′ ≡ after h c → Reached h → Reached h′
 reached-after h h′ c e r =
     ∥∥₁-map r (λ p. (p .0 ++ (c ∷ []), history-append (p .0) (c ∷ []) ∙ ap (λ x. after x c) (p .1) ∙ sym e))
+
+-- A step that ends the kiosk's open transaction.
+pub reached-end : (h : History) (k : ℕ) (s : State) → is-open s ≡ false → Reached h → Reached (next h (end-at h k s))
+reached-end h k Open e r = absurd (both-ways true e refl)
+reached-end h k Committed e r = reached-after h (after h (commit k)) (commit k) refl r
+reached-end h k Aborted e r = reached-after h (after h (abort k)) (abort k) refl r

@@ -19,7 +19,7 @@ use Rattle.journal.specs.History.{History, Call, Reached, history, history-fro
 use Rattle.journal.specs.declared.transaction.OuterRead.{OuterRead}
 use Rattle.journal.proofs.Numbers.{set-cases}
 use Rattle.journal.proofs.Opens.{opened, none-open}
-use Rattle.journal.proofs.Changes.{Edit, reads, writes, ends, Change, same, more, edited, after-change}
+use Rattle.journal.proofs.Changes.{Edit, stays, reads, writes, ends, Change, same, more, edited, after-change}
 use Rattle.journal.proofs.Sources.{serve-kept}
 
 abbrev pub Serves : History → OuterRead → Type 0
@@ -32,21 +32,25 @@ pub record Sound (h : History) : Type 0 where
   pub ended : (i j : ℕ) → i < j → j < length h → getD h i nobody .kiosk ≡ getD h j nobody .kiosk → is-open (getD h i nobody .state) ≡ false
 
 edit-few : (h : History) (t t′ : Txn) → Edit h t t′ → length (t .reads) ≤ most-reads → length (t′ .reads) ≤ most-reads
+edit-few h t t′ stays f = f
 edit-few h t t′ (reads r s a b d l) f = omega (arith, length-push (t .reads) (record { row = r; source = s }))
 edit-few h t t′ (writes r l) f = f
 edit-few h t t′ (ends s e) f = f
 
 edit-served : (h h′ : History) (t t′ : Txn) → Edit h t t′ → ((r s : ℕ) → can-serve h r s ≡ true → can-serve h′ r s ≡ true) → All (Serves h′) (t .reads) → All (Serves h′) (t′ .reads)
+edit-served h h′ t t′ stays kept f = f
 edit-served h h′ t t′ (reads r s a b d l) kept f = all-push (Serves h′) (t .reads) (record { row = r; source = s }) f (kept r s d)
 edit-served h h′ t t′ (writes r l) kept f = f
 edit-served h h′ t t′ (ends s e) kept f = f
 
 edit-kiosk : (h : History) (t t′ : Txn) → Edit h t t′ → t′ .kiosk ≡ t .kiosk
+edit-kiosk h t t′ stays = refl
 edit-kiosk h t t′ (reads r s a b d l) = refl
 edit-kiosk h t t′ (writes r l) = refl
 edit-kiosk h t t′ (ends s e) = refl
 
 edit-ended : (h : History) (t t′ : Txn) → Edit h t t′ → is-open (t .state) ≡ false → is-open (t′ .state) ≡ false
+edit-ended h t t′ stays f = f
 edit-ended h t t′ (reads r s a b d l) f = f
 edit-ended h t t′ (writes r l) f = f
 edit-ended h t t′ (ends s e) f = e

@@ -70,7 +70,8 @@ changed h n t = set h (n - 1) t
 abbrev pub Step : Type 0
 Step = Result (ℕ × History) Refusal
 
-abbrev pub refuse-if : Bool → Refusal → Step → Step
+-- The refusal, where it is due; else the rest.
+abbrev pub refuse-if : {A : Type 0} → Bool → Refusal → Result A Refusal → Result A Refusal
 refuse-if bad why rest = cond bad (Err why) rest
 
 abbrev pub then : {A : Type 0} → Result A Refusal → (A → Step) → Step
@@ -89,18 +90,19 @@ begin-at h k m =
 abbrev pub by-open : History → ℕ → (ℕ → Step) → Step
 by-open h k f = refuse-if (leb kiosk-count k) NoSuchKiosk (then (okOr (open-number h k) NothingOpen) f)
 
--- Transaction n, which is t, reads: a row of its own is tested, another is recorded, while there are fewer than `most`.
-abbrev pub read-by : ℕ → History → ℕ → Txn → ℕ → ℕ → Step
-read-by most h n t r s =
+-- Transaction n, which is t, after it has read a row: a row of its own is tested, and another is recorded while it has fewer than `most`.
+abbrev pub reader-after : ℕ → History → ℕ → Txn → ℕ → ℕ → Result Txn Refusal
+reader-after most h n t r s =
     cond (has-row t r)
-    (refuse-if (not (eqb s n)) NotOwnNumber
-    (Ok (length (t .reads), h)))
+    (refuse-if (not (eqb s n)) NotOwnNumber (Ok t))
     (refuse-if (not (can-serve h r s)) NoSuchSource
     (refuse-if (leb most (length (t .reads))) TooManyReads
-    (Ok (length (t .reads) + 1, changed h n (with-read r s t)))))
+    (Ok (with-read r s t))))
 
 abbrev pub read-at : ℕ → History → ℕ → ℕ → ℕ → Step
-read-at most h k r s = by-open h k (λ n. refuse-if (leb row-count r) NoSuchRow (read-by most h n (numbered h n) r s))
+read-at most h k r s =
+    by-open h k (λ n. refuse-if (leb row-count r) NoSuchRow
+    (then (reader-after most h n (numbered h n) r s) (λ t. Ok (length (t .reads), changed h n t))))
 
 abbrev pub write-at : History → ℕ → ℕ → Step
 write-at h k r =

@@ -1,10 +1,13 @@
 ghost use Prim.Native.Nat.{ℕ, _+_, _<_, _≤_};
-ghost use Rattle.journal.specs.Admission.{Within, acting, admitted};
-ghost use Rattle.journal.specs.Calls.{Done, of-journal};
-ghost use Rattle.journal.specs.History.{Call, abort, begin, commit, history, read, write};
+ghost use Rattle.journal.specs.Admission.{Within, acting, admitted, is-begin};
+ghost use Rattle.journal.specs.Calls.{Comes-to, Done, of-journal};
+ghost use Rattle.journal.specs.History.{Has-number, History, Reached, abort, begin, commit, end-at, numbered, read, reader-after, write};
+ghost use Rattle.journal.specs.Limits.{most-reads};
+ghost use Rattle.journal.specs.Recorded.{Gives};
 ghost use Rattle.journal.specs.Rules.{Ended-stays, Rules};
-ghost use Rattle.std.specs.Vec.{made};
-ghost use mathlib.Core.List.{List, []};
+ghost use Rattle.journal.specs.Transactions.{is-open};
+ghost use mathlib.Core.Bool.{false};
+ghost use mathlib.Core.List.{[]};
 ghost use mathlib.Core.Path.{_≡_};
 use crate::event::Event;
 use crate::mark::Mark;
@@ -25,7 +28,7 @@ impl Journal {
     /// the rules, and what has ended in it stays as it is.
     pub fn new() -> Journal
         ensures empty { λ r. ⌜ of-journal r ≡ [] ⌝ }
-        ensures rules { λ _. ⌜ ((calls : List Call) → Rules (history calls)) ⌝ }
+        ensures rules { λ _. ⌜ ((h : History) → Reached h → Rules h) ⌝ }
         ensures stays { λ _. ⌜ Ended-stays ⌝ }
     {
         Journal {
@@ -70,6 +73,27 @@ impl Journal {
         self.admit(kiosk, event)
     }
 
+    /// The transaction with the number, after it has read the row from the source.
+    fn reader_after(&self, number: u8, row: u8, source: u8) -> Result<Transaction, Refusal>
+        requires { ⌜ Has-number (of-journal (now self)) number ⌝ }
+        ensures { λ r. ⌜ Gives (reader-after most-reads (of-journal (now (self .entry))) number (numbered (of-journal (now (self .entry))) number) row source) r ⌝ }
+    {
+        let reader = self.table.at(number);
+        if reader.wrote(row) {
+            if source != number {
+                return Err(Refusal::NotOwnNumber);
+            }
+            return Ok(reader);
+        }
+        if !self.table.can_serve(row, source) {
+            return Err(Refusal::NoSuchSource);
+        }
+        if reader.reads_made() as usize >= MOST_READS {
+            return Err(Refusal::TooManyReads);
+        }
+        Ok(reader.with_read(row, source))
+    }
+
     /// The kiosk's open transaction reads the row from the source; the answer is how many outer reads it then has.
     pub fn read(&mut self, kiosk: u8, row: u8, source: u8) -> Result<u8, Refusal>
         ensures { λ r. ⌜ Done (read kiosk row source) (now (self .entry)) r (now (self .exit)) ⌝ }
@@ -78,22 +102,9 @@ impl Journal {
         if row as usize >= ROWS {
             return Err(Refusal::NoSuchRow);
         }
-        let reader = self.table.at(number);
-        let made = reader.reads_made();
-        if reader.wrote(row) {
-            if source != number {
-                return Err(Refusal::NotOwnNumber);
-            }
-            return Ok(made);
-        }
-        if !self.table.can_serve(row, source) {
-            return Err(Refusal::NoSuchSource);
-        }
-        if made as usize >= MOST_READS {
-            return Err(Refusal::TooManyReads);
-        }
-        self.table.put(number, reader.with_read(row, source));
-        Ok(made + 1)
+        let reader = self.reader_after(number, row, source)?;
+        self.table.put(number, reader);
+        Ok(reader.reads_made())
     }
 
     /// The kiosk's open transaction writes the row; the answer is how many different rows it has then written.
@@ -109,23 +120,28 @@ impl Journal {
         Ok(writer.rows_written())
     }
 
+    /// The kiosk's open transaction ends in the state; the answer is its number.
+    fn end(&mut self, kiosk: u8, event: Event, state: State) -> Result<u8, Refusal>
+        requires { ⌜ is-begin event ≡ false ⌝ ∗ ⌜ is-open state ≡ false ⌝ }
+        ensures { λ r. ⌜ Comes-to (end-at (of-journal (now (self .entry))) kiosk state) (now (self .entry)) r (now (self .exit)) ⌝ }
+    {
+        let number = self.acting(kiosk, event)?;
+        let ended = self.table.at(number).with_state(state);
+        self.table.put(number, ended);
+        Ok(number)
+    }
+
     /// The kiosk's open transaction commits; the answer is its number.
     pub fn commit(&mut self, kiosk: u8) -> Result<u8, Refusal>
         ensures { λ r. ⌜ Done (commit kiosk) (now (self .entry)) r (now (self .exit)) ⌝ }
     {
-        let number = self.acting(kiosk, Event::Commit)?;
-        let ended = self.table.at(number).with_state(State::Committed);
-        self.table.put(number, ended);
-        Ok(number)
+        self.end(kiosk, Event::Commit, State::Committed)
     }
 
     /// The kiosk's open transaction aborts; the answer is its number.
     pub fn abort(&mut self, kiosk: u8) -> Result<u8, Refusal>
         ensures { λ r. ⌜ Done (abort kiosk) (now (self .entry)) r (now (self .exit)) ⌝ }
     {
-        let number = self.acting(kiosk, Event::Abort)?;
-        let ended = self.table.at(number).with_state(State::Aborted);
-        self.table.put(number, ended);
-        Ok(number)
+        self.end(kiosk, Event::Abort, State::Aborted)
     }
 }

@@ -3,7 +3,6 @@ ghost use Rattle.journal.specs.Calls.{of-journal};
 ghost use Rattle.journal.specs.History.{at-number};
 ghost use Rattle.journal.specs.Limits.{most-transactions};
 ghost use Rattle.journal.specs.Recorded.{txn};
-ghost use Rattle.journal.specs.Rules.{Rules};
 ghost use Rattle.std.specs.Options.{mapped};
 ghost use lib.ListN.{length};
 ghost use mathlib.Core.Path.{_≡_};
@@ -19,10 +18,9 @@ impl Journal {
         self.table.len()
     }
 
-    /// The transaction of a number, if somebody has it. Whatever is asked, the journal meets the rules.
+    /// The transaction of a number, if somebody has it.
     pub fn transaction(&self, number: u8) -> Option<Transaction>
-        ensures value { λ r. ⌜ mapped txn r ≡ at-number (of-journal (now (self .entry))) number ⌝ }
-        ensures rules { λ _. ⌜ Rules (of-journal (now (self .entry))) ⌝ }
+        ensures { λ r. ⌜ mapped txn r ≡ at-number (of-journal (now (self .entry))) number ⌝ }
     {
         self.table.find(number)
     }

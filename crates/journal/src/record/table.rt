@@ -7,11 +7,11 @@ use crate::transaction::Transaction;
 mod entries;
 
 /// The most transactions that can begin.
-pub const MOST_TRANSACTIONS: usize = 32;
+pub(crate) const MOST_TRANSACTIONS: usize = 32;
 
 /// The transactions that have begun: the first `begun` of the table, number 1 first.
 #[derive(Drop)]
-pub struct Table {
+pub(crate) struct Table {
     begun: usize,
     transactions: [Transaction; MOST_TRANSACTIONS],
     ghost within: { (begun ≤ most-transactions) × (length transactions ≡ most-transactions) },

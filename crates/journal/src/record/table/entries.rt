@@ -14,7 +14,7 @@ use crate::transaction::State;
 use crate::transaction::Transaction;
 
 impl Table {
-    pub fn empty() -> Table
+    pub(crate) fn empty() -> Table
         ensures { λ r. ⌜ recorded r ≡ [] ⌝ }
     {
         let blank = Transaction::begun(0, Mark::ReadCommitted);
@@ -25,7 +25,7 @@ impl Table {
     }
 
     /// How many transactions have begun.
-    pub fn len(&self) -> u8
+    pub(crate) fn len(&self) -> u8
         ensures count { λ r. ⌜ r ≡ length (recorded (now (self .entry))) ⌝ }
         ensures few { λ r. ⌜ r ≤ most-transactions ⌝ }
     {
@@ -33,7 +33,7 @@ impl Table {
     }
 
     /// The transaction of a number that somebody has.
-    pub fn at(&self, number: u8) -> Transaction
+    pub(crate) fn at(&self, number: u8) -> Transaction
         requires { ⌜ 0 < number ⌝ ∗ ⌜ number ≤ length (recorded (now self)) ⌝ }
         ensures { λ r. ⌜ txn r ≡ numbered (recorded (now (self .entry))) number ⌝ }
     {
@@ -41,7 +41,7 @@ impl Table {
     }
 
     /// The transaction of a number, if somebody has it.
-    pub fn find(&self, number: u8) -> Option<Transaction>
+    pub(crate) fn find(&self, number: u8) -> Option<Transaction>
         ensures { λ r. ⌜ mapped txn r ≡ at-number (recorded (now (self .entry))) number ⌝ }
     {
         if number == 0 || number > self.len() {
@@ -51,7 +51,7 @@ impl Table {
     }
 
     /// The number of the kiosk's latest transaction, 0 where it has none.
-    pub fn latest_of(&self, kiosk: u8) -> u8
+    pub(crate) fn latest_of(&self, kiosk: u8) -> u8
         ensures { λ r. ⌜ r ≡ latest (recorded (now (self .entry))) kiosk ⌝ }
     {
         let mut last = 0;
@@ -64,7 +64,7 @@ impl Table {
     }
 
     /// The state of the transaction of a number, if somebody has it.
-    pub fn state_of(&self, number: u8) -> Option<State>
+    pub(crate) fn state_of(&self, number: u8) -> Option<State>
         ensures { λ r. ⌜ r ≡ state-of (at-number (recorded (now (self .entry))) number) ⌝ }
     {
         match self.find(number) {
@@ -74,7 +74,7 @@ impl Table {
     }
 
     /// Whether a value of the row can come from the source.
-    pub fn can_serve(&self, row: u8, source: u8) -> bool
+    pub(crate) fn can_serve(&self, row: u8, source: u8) -> bool
         ensures { λ r. ⌜ r ≡ can-serve (recorded (now (self .entry))) row source ⌝ }
     {
         if source == 0 {
@@ -87,7 +87,7 @@ impl Table {
     }
 
     /// One more transaction.
-    pub fn push(&mut self, t: Transaction)
+    pub(crate) fn push(&mut self, t: Transaction)
         requires { ⌜ length (recorded (now self)) < most-transactions ⌝ }
         ensures { λ _. ⌜ recorded (now (self .exit)) ≡ recorded (now (self .entry)) ++ (txn t ∷ []) ⌝ }
     {
@@ -96,7 +96,7 @@ impl Table {
     }
 
     /// Another transaction in the place of the one with the number.
-    pub fn put(&mut self, number: u8, t: Transaction)
+    pub(crate) fn put(&mut self, number: u8, t: Transaction)
         requires { ⌜ 0 < number ⌝ ∗ ⌜ number ≤ length (recorded (now self)) ⌝ }
         ensures { λ _. ⌜ recorded (now (self .exit)) ≡ set (recorded (now (self .entry))) (number - 1) (txn t) ⌝ }
     {
