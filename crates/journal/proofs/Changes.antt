@@ -13,7 +13,7 @@ use Rattle.std.specs.declared.option.Option.the-variants.{Some, None}
 use Rattle.journal.specs.Limits.{kiosk-count, row-count, most-transactions, most-reads}
 use Rattle.journal.specs.Marks.{mark-of}
 use Rattle.journal.specs.Transactions.{Txn, is-open, has-row, begun, with-state, with-read, with-row}
-use Rattle.journal.specs.History.{History, Call, begin, read, write, commit, abort, Step, step, after, next, refuse-if, then, by-open, numbered, open-number, can-serve, changed, reader-after}
+use Rattle.journal.specs.History.{History, Call, begin, read, write, commit, abort, Step, after, next, refuse-if, then, by-open, numbered, open-number, can-serve, changed, reader-after}
 use Rattle.journal.specs.declared.mark.Mark.{Mark}
 use Rattle.std.specs.declared.result.Result.{Result}
 use Rattle.std.specs.declared.result.Result.the-variants.{Ok, Err}

@@ -1,9 +1,9 @@
 -- The rules that every history meets.
-use mathlib.Core.Path.{_≡_, sym, _∙_}
+use mathlib.Core.Path.{sym, _∙_}
 use mathlib.Core.Logic.{inl, inr}
 use native.Mathlib.Omega.{arith}
-use Prim.Native.Nat.{ℕ, _-_, _≤_}
-use lib.ListN.{length, getD}
+use Prim.Native.Nat.{_-_, _≤_}
+use lib.ListN.{getD}
 use Rattle.std.proofs.shelf.Elements.{all-from-getD, all-weaker}
 use Rattle.std.proofs.shelf.Tests.{and-parts, both-ways, cases-order}
 use Rattle.journal.specs.Marks.{mark-number}

@@ -1,7 +1,7 @@
 -- A kiosk's open transaction, where it has one, is its latest.
 use mathlib.Core.Path.{_≡_, refl, ap, sym, _∙_}
-use mathlib.Core.Bool.{Bool, true, false, cond, _&&_}
-use mathlib.Core.List.{List, [], _∷_}
+use mathlib.Core.Bool.{Bool, true, false, cond}
+use mathlib.Core.List.{[], _∷_}
 use mathlib.Core.Logic.{_⊎_, inl, inr}
 use native.Mathlib.Omega.{arith}
 use Prim.Native.Nat.{ℕ, zero, suc, _+_, _-_, _<_, _≤_}
@@ -19,7 +19,7 @@ use Rattle.journal.specs.declared.event.Event.{Event}
 use Rattle.journal.specs.declared.refusal.Refusal.the-variants.{NothingOpen}
 use Rattle.journal.specs.declared.transaction.State.{State}
 use Rattle.journal.proofs.Numbers.{at-number-is, found-at}
-use Rattle.journal.proofs.Opens.{Opened, opened, none-open}
+use Rattle.journal.proofs.Opens.{opened, none-open}
 use Rattle.journal.proofs.Soundness.{Sound}
 
 record Found (i : ℕ) (h : History) (k n : ℕ) : Type 0 where

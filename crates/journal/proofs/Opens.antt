@@ -1,16 +1,15 @@
 -- The open transaction of a kiosk: where it stands.
 use mathlib.Core.Path.{_≡_, refl}
 use mathlib.Core.Bool.{Bool, true, false, cond}
-use mathlib.Core.List.{List, [], _∷_}
+use mathlib.Core.List.{[], _∷_}
 use native.Mathlib.Omega.{arith}
 use Prim.Native.Nat.{ℕ, zero, suc, _+_, _-_, _<_, _≤_}
 use lib.ListN.{length, getD}
 use lib.Dec.{eqb}
 use Rattle.std.proofs.shelf.Tests.{and-parts, eqb-true}
-use Rattle.std.specs.declared.option.Option.{Option}
 use Rattle.std.specs.declared.option.Option.the-variants.{Some, None}
 use Rattle.journal.specs.Transactions.{Txn, is-open, open-at}
-use Rattle.journal.specs.History.{History, Has-number, nobody, numbered, open-from, open-number}
+use Rattle.journal.specs.History.{History, nobody, numbered, open-from, open-number}
 
 pub open-at-parts : (t : Txn) (k : ℕ) → open-at t k ≡ true → (is-open (t .state) ≡ true) × (t .kiosk ≡ k)
 open-at-parts t k e = let p = and-parts (is-open (t .state)) (eqb (t .kiosk) k) e in (p .0, eqb-true (t .kiosk) k (p .1))

@@ -24,8 +24,8 @@ pub reached-after : (h h′ : History) (c : Call) → h′ ≡ after h c → Rea
 reached-after h h′ c e r =
     ∥∥₁-map r (λ p. (p .0 ++ (c ∷ []), history-append (p .0) (c ∷ []) ∙ ap (λ x. after x c) (p .1) ∙ sym e))
 
--- A step that ends the kiosk's open transaction.
-pub reached-end : (h : History) (k : ℕ) (s : State) → is-open s ≡ false → Reached h → Reached (next h (end-at h k s))
-reached-end h k Open e r = absurd (both-ways true e refl)
-reached-end h k Committed e r = reached-after h (after h (commit k)) (commit k) refl r
-reached-end h k Aborted e r = reached-after h (after h (abort k)) (abort k) refl r
+-- A step that ends the kiosk's open transaction is a commit or an abort.
+pub reached-end : (h h′ : History) (k : ℕ) (s : State) → is-open s ≡ false → h′ ≡ next h (end-at h k s) → Reached h → Reached h′
+reached-end h h′ k Open o e r = absurd (both-ways true o refl)
+reached-end h h′ k Committed o e r = reached-after h h′ (commit k) e r
+reached-end h h′ k Aborted o e r = reached-after h h′ (abort k) e r

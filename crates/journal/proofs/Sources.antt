@@ -1,15 +1,15 @@
 -- What can serve a row, and that later calls leave it so.
 use mathlib.Core.Path.{_≡_, refl}
-use mathlib.Core.Bool.{true, false, _&&_, _||_}
+use mathlib.Core.Bool.{true, false}
 use mathlib.Core.Logic.{_⊎_, inl, inr}
-use mathlib.Core.List.{[], _∷_, _++_}
+use mathlib.Core.List.{[], _∷_}
 use native.Mathlib.Omega.{arith}
-use Prim.Native.Nat.{ℕ, _-_, _<_, _≤_}
-use lib.ListN.{length, getD}
+use Prim.Native.Nat.{ℕ, _-_, _<_}
+use lib.ListN.{length}
 use lib.Dec.{eqb}
 use Rattle.std.proofs.shelf.Lists.{length-set, length-push, getD-append-left}
 use Rattle.std.proofs.shelf.Tests.{or-cases, or-left, or-right, and-parts, eqb-true, eq-eqb, both-ways}
-use Rattle.journal.specs.Transactions.{Txn, is-open, is-committed, has-row, serves, begun}
+use Rattle.journal.specs.Transactions.{is-open, is-committed, has-row, serves, begun}
 use Rattle.journal.specs.History.{History, Has-number, nobody, numbered, at-number, found-serves, can-serve}
 use Rattle.journal.specs.declared.transaction.State.{State}
 use Rattle.journal.specs.declared.transaction.State.the-variants.{Open, Committed, Aborted}

@@ -1,6 +1,6 @@
 -- What a transaction and a table of the code stand for.
 use mathlib.Core.Path.{_≡_}
-use mathlib.Core.List.{List, map}
+use mathlib.Core.List.{map}
 use lib.ListN.{take}
 use Rattle.journal.specs.Transactions.{Txn}
 use Rattle.journal.specs.History.{History}

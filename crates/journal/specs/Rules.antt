@@ -8,7 +8,7 @@ use lib.ListN.{length}
 use Rattle.std.specs.shelf.Lists.{All}
 use Rattle.journal.specs.Limits.{most-reads}
 use Rattle.journal.specs.Marks.{mark-number}
-use Rattle.journal.specs.Transactions.{Txn, is-open, is-committed, open-at, has-row}
+use Rattle.journal.specs.Transactions.{is-open, is-committed, open-at, has-row}
 use Rattle.journal.specs.History.{History, Call, Has-number, history, numbered}
 use Rattle.journal.specs.declared.transaction.OuterRead.{OuterRead}
 

@@ -1,16 +1,16 @@
 -- What is decoded is what stands on the tape.
-use mathlib.Core.Path.{_≡_, refl, sym, ap, subst, _∙_}
+use mathlib.Core.Path.{_≡_, refl, sym, ap, subst}
 use mathlib.Core.Bool.{Bool, true, false, cond}
 use mathlib.Core.List.{List, [], _∷_, _++_}
-use mathlib.Core.Logic.{_⊎_, inl, inr}
-use Prim.Native.Nat.{ℕ, _+_, _≤_, _<_}
+use mathlib.Core.Logic.{inl, inr}
+use Prim.Native.Nat.{ℕ, _+_, _≤_}
 use native.Mathlib.Omega.{arith}
 use lib.ListN.{length, getD, drop, length-drop}
 use Rattle.std.proofs.shelf.Lists.{drop-all}
 use lib.Dec.{eqb, leb}
 use Rattle.std.proofs.shelf.Tests.{eqb-true, ne-eqb, leb-true, leb-false, le-leb}
-use Rattle.std.specs.declared.option.Option.the-variants.{Some, None}
-use Rattle.journal.specs.declared.refusal.Refusal.the-variants.{UnknownKind, CutShort}
+use Rattle.std.specs.declared.option.Option.the-variants.{Some}
+use Rattle.journal.specs.declared.refusal.Refusal.the-variants.{CutShort}
 use Rattle.tape.specs.declared.request.Request.{Request}
 use Rattle.tape.specs.declared.request.Request.the-variants.{Begin, Read, Write, Commit, Abort}
 use Rattle.tape.specs.declared.decoding.Found.{Found}

@@ -10,7 +10,7 @@ use Rattle.journal.specs.declared.record.Journal.{Journal}
 use Rattle.journal.specs.declared.refusal.Refusal.{Refusal}
 use Rattle.journal.specs.Calls.{Kept}
 use Rattle.tape.specs.declared.decoding.Found.{Found}
-use Rattle.tape.specs.Lines.{answer-line, written}
+use Rattle.tape.specs.Lines.{answer-line}
 use Rattle.tape.specs.Records.{found-at}
 use Rattle.tape.specs.Playing.{Turned}
 

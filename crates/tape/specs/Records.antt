@@ -13,7 +13,6 @@ use Rattle.journal.specs.declared.refusal.Refusal.the-variants.{UnknownKind, Cu
 use Rattle.journal.specs.History.{Call, begin, read, write, commit, abort}
 use Rattle.tape.specs.declared.request.Request.{Request}
 use Rattle.tape.specs.declared.request.Request.the-variants.{Begin, Read, Write, Commit, Abort}
-use Rattle.tape.specs.declared.decoding.Fault.{Fault}
 use Rattle.tape.specs.declared.decoding.Found.{Found}
 use Rattle.tape.specs.declared.decoding.Found.the-variants.{End, Record, Faulty}
 

@@ -5,8 +5,7 @@ use Prim.Native.Nat.{ℕ, _≤_, _<_}
 use lib.ListN.{length}
 use Rattle.journal.specs.declared.refusal.Refusal.the-variants.{NoSuchPlace}
 use Rattle.journal.specs.History.{History}
-use Rattle.tape.specs.declared.decoding.Found.{Found}
-use Rattle.tape.specs.declared.decoding.Found.the-variants.{End, Record, Faulty}
+use Rattle.tape.specs.declared.decoding.Found.the-variants.{End}
 use Rattle.tape.specs.declared.failure.Failure.{Failure}
 use Rattle.tape.specs.declared.failure.Failure.the-variants.{NoMemory, Refused}
 use Rattle.tape.specs.Limits.{longest-tape}

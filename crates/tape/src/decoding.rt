@@ -1,4 +1,3 @@
-ghost use Prim.Native.Nat.{ℕ, _<_, _≤_};
 ghost use Rattle.tape.specs.Records.{Fitting, Reads-back, Stands, decoded, found-at};
 ghost use lib.ListN.{drop};
 ghost use mathlib.Core.Path.{_≡_};
@@ -38,37 +37,34 @@ fn front(tape: &[u8], place: usize) -> Found
     });
     let (request, rest) = match *kind as char {
         'B' => {
-            let [kiosk, mark, rest @ ..] = body else {
+            let &[kiosk, mark, ref rest @ ..] = body else {
                 return cut_short;
             };
-            let (kiosk, mark) = (*kiosk, *mark);
             (Request::Begin { kiosk, mark }, rest)
         }
         'R' => {
-            let [kiosk, row, source, rest @ ..] = body else {
+            let &[kiosk, row, source, ref rest @ ..] = body else {
                 return cut_short;
             };
-            let (kiosk, row, source) = (*kiosk, *row, *source);
             (Request::Read { kiosk, row, source }, rest)
         }
         'W' => {
-            let [kiosk, row, rest @ ..] = body else {
+            let &[kiosk, row, ref rest @ ..] = body else {
                 return cut_short;
             };
-            let (kiosk, row) = (*kiosk, *row);
             (Request::Write { kiosk, row }, rest)
         }
         'C' => {
-            let [kiosk, rest @ ..] = body else {
+            let &[kiosk, ref rest @ ..] = body else {
                 return cut_short;
             };
-            (Request::Commit { kiosk: *kiosk }, rest)
+            (Request::Commit { kiosk }, rest)
         }
         'A' => {
-            let [kiosk, rest @ ..] = body else {
+            let &[kiosk, ref rest @ ..] = body else {
                 return cut_short;
             };
-            (Request::Abort { kiosk: *kiosk }, rest)
+            (Request::Abort { kiosk }, rest)
         }
         _ => {
             return Found::Faulty(Fault {

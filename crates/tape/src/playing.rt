@@ -1,9 +1,8 @@
-ghost use Prim.Native.Nat.{ℕ, _+_, _<_, _≤_};
+ghost use Prim.Native.Nat.{_+_, _<_, _≤_};
 ghost use Rattle.tape.specs.Limits.{line-room, longest-tape};
 ghost use Rattle.tape.specs.Playing.{Forward, Onward, Played, Turned};
 ghost use Rattle.tape.specs.Records.{found-at};
 ghost use lib.ListN.{length};
-ghost use mathlib.Core.Path.{_≡_};
 use crate::decoding::Found;
 use crate::decoding::decode;
 use crate::line::write_answer;

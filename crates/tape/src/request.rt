@@ -1,4 +1,3 @@
-ghost use Prim.Native.Nat.{ℕ};
 ghost use Rattle.journal.specs.Calls.{Done};
 ghost use Rattle.tape.specs.Records.{call-of, letter-of};
 ghost use mathlib.Core.Path.{_≡_};

@@ -3,8 +3,10 @@ use crate::decoding::Found;
 use crate::decoding::FoundDebug;
 use crate::decoding::FoundPartialEq;
 use crate::decoding::decode;
+use crate::failure::FailureDebug;
 use crate::playing::play;
 use crate::request::Request;
+use crate::whole::play_all;
 use journal::Journal;
 use journal::Refusal;
 use journal::refusal::RefusalDebug;
@@ -63,4 +65,15 @@ fn bodies_cut_short() -> Result<(), Fail> {
         decode(b"\x00A\x09", 1),
         Found::Record(Request::Abort { kiosk: 9 }, 2),
     )
+}
+
+#[test]
+fn whole_tapes(rt: LibcRuntime) -> Result<(), Fail> {
+    let tape = b"B\x00\x06R\x00\x03\x00W\x00\x03C\x00B\x01\x04R\x01\x03\x00W\x01\x03C\x01";
+    let lines = play_all(rt.alloc(), tape)?;
+    check_eq(
+        lines.as_slice(),
+        b"B 1\nR 1\nW 1\nC 1\nB 2\nR 1\nW 1\nC 2\n",
+    )?;
+    check(play_all(rt.alloc(), b"")?.is_empty())
 }

@@ -1,4 +1,4 @@
-ghost use Prim.Native.Nat.{ℕ, _+_, _<_, _≤_};
+ghost use Prim.Native.Nat.{_+_, _<_};
 ghost use Rattle.journal.specs.Admission.{Within, acting, admitted, is-begin};
 ghost use Rattle.journal.specs.Calls.{Comes-to, Done, of-journal};
 ghost use Rattle.journal.specs.History.{Has-number, History, Reached, abort, begin, commit, end-at, numbered, read, reader-after, write};

@@ -1,4 +1,4 @@
-ghost use Prim.Native.Nat.{ℕ, _≤_};
+ghost use Prim.Native.Nat.{_≤_};
 ghost use Rattle.journal.specs.Calls.{of-journal};
 ghost use Rattle.journal.specs.History.{at-number};
 ghost use Rattle.journal.specs.Limits.{most-transactions};

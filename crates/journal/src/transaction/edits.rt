@@ -1,4 +1,4 @@
-ghost use Prim.Native.Nat.{ℕ, _<_};
+ghost use Prim.Native.Nat.{_<_};
 ghost use Rattle.journal.specs.Limits.{most-reads, row-count};
 ghost use Rattle.journal.specs.Recorded.{txn};
 ghost use Rattle.journal.specs.Transactions.{begun, with-read, with-row, with-state};

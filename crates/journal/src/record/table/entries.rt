@@ -1,4 +1,4 @@
-ghost use Prim.Native.Nat.{ℕ, _+_, _-_, _<_, _≤_};
+ghost use Prim.Native.Nat.{_+_, _-_, _<_, _≤_};
 ghost use Rattle.journal.specs.Admission.{latest, state-of};
 ghost use Rattle.journal.specs.History.{at-number, can-serve, numbered};
 ghost use Rattle.journal.specs.Limits.{most-transactions};

@@ -5,7 +5,6 @@ use Prim.Native.Nat.{ℕ, _≤_}
 use lib.ListN.{length, drop}
 use Rattle.std.proofs.shelf.Parts.{between-to-end}
 use Rattle.std.specs.Holes.{between}
-use Rattle.tape.specs.declared.decoding.Found.{Found}
 use Rattle.tape.specs.declared.decoding.Found.the-variants.{End}
 use Rattle.tape.specs.Records.{Fitting, decoded, found-at}
 use Rattle.tape.proofs.Decoded.{end-beyond, fitting-at, reads-back, stands-at}

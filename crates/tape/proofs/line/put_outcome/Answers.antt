@@ -1,4 +1,3 @@
-use native.Mathlib.Omega.{arith}
 use borrow.Author.Needs.{needs}
 use Rattle.tape.proofs.Decimals.{length-decimal-20}
 use Rattle.tape.proofs.Texts.{written-written}

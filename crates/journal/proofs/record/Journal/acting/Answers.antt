@@ -1,6 +1,5 @@
 use borrow.Author.Needs.{needs}
 use mathlib.Core.Path.{sym, subst}
-use Prim.Native.Nat.{ℕ}
 use Rattle.journal.specs.Admission.{Within}
 use Rattle.journal.specs.Calls.{of-journal}
 use Rattle.journal.proofs.Latest.{admitted-within}
