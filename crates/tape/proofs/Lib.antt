@@ -2,4 +2,5 @@ mod Decoded
 mod Texts
 mod Decimals
 mod Turns
+mod Requests
 mod Wholes

@@ -20,7 +20,8 @@ use Rattle.tape.specs.declared.decoding.Found.the-variants.{End, Record, Fault
 use Rattle.tape.specs.Limits.{line-room, longest-tape}
 use Rattle.tape.specs.Playing.{Played, refusal-due, reply, next-place, line-of, history-after}
 use Rattle.tape.specs.Records.{found-at}
-use Rattle.tape.specs.Whole.{All-lines, Lines, ended, played}
+use Rattle.tape.specs.Whole.{All-lines, Lines, answers-of, ended, played}
+use Rattle.tape.proofs.Requests.{lines-of-requests}
 use Rattle.tape.proofs.Texts.{front-of-written}
 
 -- The lines out were written, and each list of lines from here on makes a whole with them.
@@ -95,4 +96,9 @@ onto-end j j′ tape place line line′ out o i p k =
     let h : History = of-journal j in
     let d : Lines tape [] 0 (out ++ []) = k [] (ended h place (none-at h tape place (found-at tape place) (sym i ∙ p .1 .answers))) in
     let due : Lines tape [] 0 out = subst (λ (x : List ℕ). Lines tape [] 0 x) (append-nil out) d in
-    record { short = not-long (length line) tape place (p .0); due = due; only = λ others l. lines-unique tape [] 0 others out l due }
+    record {
+      short = not-long (length line) tape place (p .0);
+      due = due;
+      only = λ others l. lines-unique tape [] 0 others out l due;
+      answers = λ qs e. lines-unique tape [] 0 out (answers-of [] qs) due (subst (λ (x : List ℕ). Lines x [] 0 (answers-of [] qs)) (sym e) (lines-of-requests [] [] qs));
+    }
