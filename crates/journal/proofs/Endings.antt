@@ -21,10 +21,9 @@ stays-change h h′ (more k m kl o l) n p e =
     let lt : n - 1 < length h = omega (arith, p) in
     ((p .0, omega (arith, p, length-push h (begun k m))), getD-append-left h (begun k m ∷ []) nobody (n - 1) lt)
 stays-change h h′ (edited k q t o d) n p e =
-    let f = opened h k q o in
-    let lt : q - 1 < length h = omega (arith, f .above, f .within) in (
+    let f = opened h k q o in (
       (p .0, omega (arith, p, length-set h (q - 1) t)),
-      set-cases (λ x. x ≡ numbered h n) h (q - 1) (n - 1) t lt
+      set-cases (λ x. x ≡ numbered h n) h (q - 1) (n - 1) t (f .place)
           (λ z. absurd (both-ways (is-open (numbered h q .state)) (rw z at e) (f .still-open)))
           (λ ne. refl),
     )

@@ -18,33 +18,21 @@ use Rattle.journal.specs.History.{History, Has-number, nobody, numbered, at-nu
 use Rattle.journal.specs.declared.event.Event.{Event}
 use Rattle.journal.specs.declared.refusal.Refusal.the-variants.{NothingOpen}
 use Rattle.journal.specs.declared.transaction.State.{State}
-use Rattle.journal.proofs.Numbers.{at-number-is, found-at}
+use Rattle.journal.proofs.Numbers.{Found, at-number-is, found-first, found-later, found-number, test-finds}
 use Rattle.journal.proofs.Opens.{opened, none-open}
 use Rattle.journal.proofs.Soundness.{Sound}
 
-record Found (i : ℕ) (h : History) (k n : ℕ) : Type 0 where
-  above : i < n
-  within : n ≤ i + length h
-  at-kiosk : getD h (n - 1 - i) nobody .kiosk ≡ k
-
-latest-found : (i : ℕ) (h : History) (k last : ℕ) → (latest-from i h k last ≡ last) ⊎ Found i h k (latest-from i h k last)
+latest-found : (i : ℕ) (h : History) (k last : ℕ) → (latest-from i h k last ≡ last) ⊎ Found (λ t. t .kiosk ≡ k) i h (latest-from i h k last)
 latest-found i [] k last = inl refl
 latest-found i (t ∷ h) k last = go (eqb (t .kiosk) k) refl (latest-found (i + 1) h k)
   where
-    later : (n : ℕ) → Found (i + 1) h k n → Found i (t ∷ h) k n
-    later n r =
-        let z : n - 1 - i ≡ suc (n - 1 - (i + 1)) = omega (arith, r .above) in
-        record { above = omega (arith, r .above); within = omega (arith, r .within); at-kiosk = rw z (r .at-kiosk) }
-
-    go : (b : Bool) → eqb (t .kiosk) k ≡ b → ((l : ℕ) → (latest-from (i + 1) h k l ≡ l) ⊎ Found (i + 1) h k (latest-from (i + 1) h k l)) →
-        (latest-from (i + 1) h k (cond b (i + 1) last) ≡ last) ⊎ Found i (t ∷ h) k (latest-from (i + 1) h k (cond b (i + 1) last))
+    go : (b : Bool) → eqb (t .kiosk) k ≡ b → ((l : ℕ) → (latest-from (i + 1) h k l ≡ l) ⊎ Found (λ t. t .kiosk ≡ k) (i + 1) h (latest-from (i + 1) h k l)) →
+        (latest-from (i + 1) h k (cond b (i + 1) last) ≡ last) ⊎ Found (λ t. t .kiosk ≡ k) i (t ∷ h) (latest-from (i + 1) h k (cond b (i + 1) last))
     go true e ih = elim (ih (i + 1)) [
-      | inl q ↦
-          let z : latest-from (i + 1) h k (i + 1) - 1 - i ≡ 0 = omega (arith, q) in
-          inr (record { above = omega (arith, q); within = omega (arith, q); at-kiosk = rw z (eqb-true (t .kiosk) k e) })
-      | inr r ↦ inr (later _ r)
+      | inl q ↦ inr (found-first (λ t. t .kiosk ≡ k) i t h _ q (eqb-true (t .kiosk) k e))
+      | inr r ↦ inr (found-later (λ t. t .kiosk ≡ k) i t h _ r)
     ]
-    go false e ih = elim (ih last) [ inl q ↦ inl q | inr r ↦ inr (later _ r) ]
+    go false e ih = elim (ih last) [ inl q ↦ inl q | inr r ↦ inr (found-later (λ t. t .kiosk ≡ k) i t h _ r) ]
 
 latest-least : (i : ℕ) (h : History) (k last : ℕ) → last ≤ i → last ≤ latest-from i h k last
 latest-least i [] k last l = omega arith
@@ -68,7 +56,7 @@ latest-kiosk : (h : History) (k : ℕ) → 0 < latest h k → numbered h (latest
 latest-kiosk h k some =
     elim (latest-found 0 h k 0) [
       | inl q ↦ absurd (omega (arith, q))
-      | inr r ↦ let z : latest h k - 1 - 0 ≡ latest h k - 1 = omega arith in rw z at (r .at-kiosk)
+      | inr r ↦ found-number (λ t. t .kiosk ≡ k) h (latest h k) r .1
     ]
 
 latest-within : (h : History) (k : ℕ) → latest h k ≤ length h
@@ -80,13 +68,13 @@ by-latest h k = has-open (state-of (at-number h (latest h k)))
 open-is-latest : (h : History) (k n : ℕ) → Sound h → open-number h k ≡ Some n → (latest h k ≡ n) × (by-latest h k ≡ true)
 open-is-latest h k n s e =
     let o = opened h k n e in
-    let last : n - 1 < latest h k = omega (arith, latest-last 0 h k 0 (n - 1) (omega (arith, o .above, o .within)) (o .at-kiosk)) in
+    let last : n - 1 < latest h k = omega (arith, latest-last 0 h k 0 (n - 1) (o .place) (o .at-kiosk)) in
     let within = latest-within h k in
     elim (cases-lt n (latest h k)) [
-      | inl lt ↦ absurd (both-ways _ (s .ended (n - 1) (latest h k - 1) (omega (arith, o .above)) (omega arith) (o .at-kiosk ∙ sym (latest-kiosk h k (omega arith)))) (o .still-open))
+      | inl lt ↦ absurd (both-ways _ (s .ended (n - 1) (latest h k - 1) (omega (arith, o .has)) (omega arith) (o .at-kiosk ∙ sym (latest-kiosk h k (omega arith)))) (o .still-open))
       | inr ge ↦
-          let is : latest h k ≡ n = omega (arith, o .above) in
-          (is, rw (is, at-number-is h n (o .above, o .within)) (o .still-open))
+          let is : latest h k ≡ n = omega (arith, o .has) in
+          (is, rw (is, at-number-is h n (o .has)) (o .still-open))
     ]
 
 none-is-latest : (h : History) (k : ℕ) → open-number h k ≡ None → by-latest h k ≡ false
@@ -94,7 +82,7 @@ none-is-latest h k e = go (by-latest h k) refl
   where
     go : (b : Bool) → by-latest h k ≡ b → by-latest h k ≡ false
     go true q =
-        let p = found-at h (latest h k) (λ o. has-open (state-of o)) refl q in
+        let p = test-finds h (latest h k) (λ o. has-open (state-of o)) refl q in
         let t : Txn = numbered h (latest h k) in
         let here = none-open h k e (latest h k - 1) (omega (arith, p .0)) in
         absurd (both-ways (open-at t k) here (and-from (is-open (t .state)) (eqb (t .kiosk) k) (p .1) (eq-eqb (t .kiosk) k (latest-kiosk h k (p .0 .0)))))
@@ -117,7 +105,7 @@ admits-admitted h k e s last begun sound l q n = rw (q, l, n) (by-latest-state h
 
 -- Who acts has a number.
 open-within : (h : History) (k : ℕ) (o : Option ℕ) → open-number h k ≡ o → made (okOr o NothingOpen) (Has-number h)
-open-within h k (Some n) q = let o = opened h k n q in (o .above, o .within)
+open-within h k (Some n) q = opened h k n q .has
 open-within h k None q = tt
 
 pub admitted-within : (h : History) (k : ℕ) (e : Event) → Within h e (admitted h k e)

@@ -9,3 +9,4 @@ pub mod Soundness
 pub mod Latest
 pub mod Conditions
 pub mod Endings
+pub mod OwnRows

@@ -91,7 +91,7 @@ sound-change h h′ (more k m kl o l) s =
     }
 sound-change h h′ (edited k n t o d) s =
     let f = opened h k n o in
-    let lt : n - 1 < length h = omega (arith, f .above, f .within) in
+    let lt = f .place in
     let kiosk : (i : ℕ) → getD h′ i nobody .kiosk ≡ getD h i nobody .kiosk = λ i. set-cases (λ x. x .kiosk ≡ getD h i nobody .kiosk) h (n - 1) i t lt (λ e. rw e (edit-kiosk h (numbered h n) t d)) (λ ne. refl) in
     let over : (i : ℕ) → is-open (getD h i nobody .state) ≡ false → is-open (getD h′ i nobody .state) ≡ false = λ i. set-cases (λ x. is-open (getD h i nobody .state) ≡ false → is-open (x .state) ≡ false) h (n - 1) i t lt (λ e. rw e (edit-ended h (numbered h n) t d)) (λ ne z. z) in
     record {

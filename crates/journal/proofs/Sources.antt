@@ -13,7 +13,7 @@ use Rattle.journal.specs.Transactions.{is-open, is-committed, has-row, serves,
 use Rattle.journal.specs.History.{History, Has-number, nobody, numbered, at-number, found-serves, can-serve}
 use Rattle.journal.specs.declared.transaction.State.{State}
 use Rattle.journal.specs.declared.transaction.State.the-variants.{Open, Committed, Aborted}
-use Rattle.journal.proofs.Numbers.{at-number-is, found-at, set-cases}
+use Rattle.journal.proofs.Numbers.{at-number-is, set-cases, test-finds}
 use Rattle.journal.proofs.Opens.{opened}
 use Rattle.journal.proofs.Changes.{Change, same, more, edited}
 
@@ -27,7 +27,7 @@ pub serve-parts : (h : History) (r s : ℕ) → can-serve h r s ≡ true → (s 
 serve-parts h r s e =
     elim (or-cases (eqb s 0) (found-serves (at-number h s) r) e) [
       | inl z ↦ inl (eqb-true s 0 z)
-      | inr b ↦ inr (found-at h s (λ o. found-serves o r) refl b)
+      | inr b ↦ inr (test-finds h s (λ o. found-serves o r) refl b)
     ]
 
 serve-zero : (h : History) (r s : ℕ) → s ≡ 0 → can-serve h r s ≡ true
@@ -50,9 +50,8 @@ serve-kept h h′ (edited k n t o d) r s e =
       | inl z ↦ serve-zero h′ r s z
       | inr p ↦
           let f = opened h k n o in
-          let lt : n - 1 < length h = omega (arith, f .above, f .within) in
           serve-from h′ r s (p .0 .0, omega (arith, p .0, length-set h (n - 1) t))
-          (set-cases (λ x. serves x r ≡ true) h (n - 1) (s - 1) t lt
+          (set-cases (λ x. serves x r ≡ true) h (n - 1) (s - 1) t (f .place)
           (λ q. absurd (not-both (numbered h n .state) (f .still-open) (rw q at (and-parts (is-committed (numbered h s .state)) (has-row (numbered h s) r) (p .1) .0))))
           (λ ne. p .1))
     ]

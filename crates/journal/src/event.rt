@@ -4,7 +4,7 @@ use crate::refusal::Refusal;
 use crate::transaction::State;
 
 /// What a kiosk asks for.
-#[derive(Clone, Copy, PartialEq, Eq, Debug)]
+#[derive(Clone, Copy)]
 pub(crate) enum Event {
     Begin,
     Read,

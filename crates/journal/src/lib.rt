@@ -1,6 +1,7 @@
 //! The journal of transactions: what kiosks may record, and what is then recorded.
 
 mod event;
+pub mod limits;
 pub mod mark;
 pub mod record;
 pub mod refusal;

@@ -2,16 +2,12 @@ ghost use Prim.Native.Nat.{_≤_};
 ghost use Rattle.journal.specs.Limits.{most-reads};
 ghost use lib.ListN.{length};
 ghost use mathlib.Core.Path.{_≡_};
+use crate::limits::MOST_READS;
+use crate::limits::ROWS;
 use crate::mark::Mark;
 
 mod edits;
 mod facts;
-
-/// How many rows there are.
-pub const ROWS: usize = 64;
-
-/// The most outer reads that a transaction can have.
-pub const MOST_READS: usize = 16;
 
 #[derive(Clone, Copy, PartialEq, Eq, Debug)]
 pub enum State {

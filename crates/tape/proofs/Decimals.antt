@@ -1,15 +1,13 @@
 -- Decimal numbers, written digit by digit.
 use mathlib.Core.Path.{_≡_, sym, ap, _∙_}
-use mathlib.Core.List.{List, [], _∷_, _++_, append-assoc}
+use mathlib.Core.List.{List, [], _∷_}
 use Prim.Native.Nat.{ℕ, _+_, _/_, _%_, _^_, _≤_, _<_}
 use native.Mathlib.Omega.{arith}
 use lib.Dec.{lit<}
 use lib.ListN.{length, length-append}
 use Rattle.std.proofs.shelf.Decimals.{decimal-step, length-decimal-le}
 use Rattle.std.specs.Written.{decimal}
-use Rattle.tape.specs.Lines.{fault-line, written}
-use Rattle.tape.specs.declared.decoding.Fault.{Fault}
-use Rattle.journal.specs.Refusals.{refusal-number}
+use Rattle.tape.specs.Lines.{written}
 use Rattle.tape.proofs.Texts.{written-written}
 
 -- A decimal whose front is written: its last digit comes after.
@@ -22,7 +20,3 @@ length-decimal-more n big fits = ap length (decimal-step n big fits) ∙ length-
 
 pub length-decimal-20 : (n : ℕ) → n < 2 ^ 64 → length (decimal n) ≤ 20
 length-decimal-20 n fits = length-decimal-le 20 n (lit< tt) (omega arith) fits
-
--- The parts of a fault's line, put together.
-pub fault-text : (f : Fault) (m : ℕ) → m ≡ refusal-number (f .why) → ((((63 ∷ 32 ∷ []) ++ decimal m) ++ (32 ∷ 97 ∷ 116 ∷ 32 ∷ [])) ++ decimal (f .place)) ++ (10 ∷ []) ≡ fault-line f
-fault-text f m e = ap (λ (k : ℕ). ((((63 ∷ 32 ∷ []) ++ decimal k) ++ (32 ∷ 97 ∷ 116 ∷ 32 ∷ [])) ++ decimal (f .place)) ++ (10 ∷ [])) e ∙ simp append-assoc

@@ -1,6 +1,6 @@
 -- One text after another, written over a line.
 use mathlib.Core.Path.{_≡_, refl, sym, ap, subst, _∙_}
-use mathlib.Core.List.{List, [], _++_}
+use mathlib.Core.List.{List, [], _∷_, _++_, append-assoc}
 use Prim.Native.Nat.{ℕ, _+_, _≤_}
 use native.Mathlib.Nat.{zero-add}
 use native.Mathlib.Omega.{arith}
@@ -10,7 +10,10 @@ use borrow.Rule.Slice.PartMut.{putMid}
 use Rattle.std.proofs.shelf.Edits.{paste-none, paste-all, paste-paste}
 use Rattle.std.proofs.shelf.Lists.{take-at}
 use Rattle.std.proofs.shelf.Parts.{putMid-paste}
-use Rattle.tape.specs.Lines.{written}
+use Rattle.std.specs.Written.{decimal}
+use Rattle.journal.specs.Refusals.{refusal-number}
+use Rattle.tape.specs.declared.decoding.Fault.{Fault}
+use Rattle.tape.specs.Lines.{fault-line, written}
 
 written-paste : (xs : List ℕ) (at : ℕ) (ys : List ℕ) (n : ℕ) → n ≡ length ys → written xs at ys ≡ paste xs at ys n
 unfolding written
@@ -54,3 +57,7 @@ then {xs = xs} {n = n} {ys = ys} zs h e f =
 
 pub regrouped : {xs l : List ℕ} {n : ℕ} {ys zs : List ℕ} → ys ≡ zs → Holds xs l n ys → Holds xs l n zs
 regrouped {xs = xs} {l = l} {n = n} e h = subst (λ (t : List ℕ). Holds xs l n t) e h
+
+-- The parts of a fault's line, put together.
+pub fault-text : (f : Fault) (m : ℕ) → m ≡ refusal-number (f .why) → ((((63 ∷ 32 ∷ []) ++ decimal m) ++ (32 ∷ 97 ∷ 116 ∷ 32 ∷ [])) ++ decimal (f .place)) ++ (10 ∷ []) ≡ fault-line f
+fault-text f m e = ap (λ (k : ℕ). ((((63 ∷ 32 ∷ []) ++ decimal k) ++ (32 ∷ 97 ∷ 116 ∷ 32 ∷ [])) ++ decimal (f .place)) ++ (10 ∷ [])) e ∙ simp append-assoc

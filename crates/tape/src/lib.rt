@@ -2,6 +2,7 @@
 
 pub mod decoding;
 pub mod failure;
+pub mod limits;
 mod line;
 pub mod playing;
 pub mod request;
@@ -13,8 +14,8 @@ pub use decoding::Fault;
 pub use decoding::Found;
 pub use decoding::decode;
 pub use failure::Failure;
-pub use playing::LINE_ROOM;
-pub use playing::LONGEST_TAPE;
+pub use limits::LINE_ROOM;
+pub use limits::LONGEST_TAPE;
 pub use playing::play;
 pub use request::Request;
 pub use whole::play_all;

@@ -1,4 +1,4 @@
-ghost use Prim.Native.Nat.{_+_, _<_, _≤_};
+ghost use Prim.Native.Nat.{_+_, _≤_};
 ghost use Rattle.std.specs.Written.{decimal};
 ghost use Rattle.tape.specs.Limits.{line-room};
 ghost use Rattle.tape.specs.Lines.{answer-line, fault-line, outcome, written};

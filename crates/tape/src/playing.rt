@@ -1,20 +1,16 @@
-ghost use Prim.Native.Nat.{_+_, _<_, _≤_};
+ghost use Prim.Native.Nat.{_≤_};
 ghost use Rattle.tape.specs.Limits.{line-room, longest-tape};
 ghost use Rattle.tape.specs.Playing.{Forward, Onward, Played, Turned};
 ghost use Rattle.tape.specs.Records.{found-at};
 ghost use lib.ListN.{length};
 use crate::decoding::Found;
 use crate::decoding::decode;
+use crate::limits::LINE_ROOM;
+use crate::limits::LONGEST_TAPE;
 use crate::line::write_answer;
 use crate::line::write_fault;
 use journal::Journal;
 use journal::Refusal;
-
-/// The fewest bytes that a line buffer may have.
-pub const LINE_ROOM: usize = 96;
-
-/// The most bytes that a tape may have.
-pub const LONGEST_TAPE: usize = 65536;
 
 /// Plays what stands at a place within the tape, into a buffer that holds any line.
 fn advance(

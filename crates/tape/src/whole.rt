@@ -4,7 +4,7 @@ ghost use Rattle.tape.specs.Whole.{All-lines, Failed};
 use crate::failure::Failure;
 use crate::failure::FailureFromAlloc;
 use crate::failure::FailureFromRefusal;
-use crate::playing::LINE_ROOM;
+use crate::limits::LINE_ROOM;
 use crate::playing::play;
 use journal::Journal;
 use std::alloc::Global;

@@ -1,34 +1,34 @@
-ghost use Prim.Native.Nat.{_+_, _<_};
 ghost use Rattle.journal.specs.Admission.{Within, acting, admitted, is-begin};
 ghost use Rattle.journal.specs.Calls.{Comes-to, Done, of-journal};
 ghost use Rattle.journal.specs.History.{Has-number, History, Reached, abort, begin, commit, end-at, numbered, read, reader-after, write};
 ghost use Rattle.journal.specs.Limits.{most-reads};
-ghost use Rattle.journal.specs.Recorded.{Gives};
-ghost use Rattle.journal.specs.Rules.{Ended-stays, Rules};
+ghost use Rattle.journal.specs.Recorded.{txn};
+ghost use Rattle.journal.specs.Rules.{Ended-stays, Own-rows-stay, Rules};
 ghost use Rattle.journal.specs.Transactions.{is-open};
+ghost use Rattle.std.specs.Results.{mapped};
 ghost use mathlib.Core.Bool.{false};
 ghost use mathlib.Core.List.{[]};
 ghost use mathlib.Core.Path.{_≡_};
 use crate::event::Event;
+use crate::limits::KIOSKS;
+use crate::limits::MOST_READS;
+use crate::limits::MOST_TRANSACTIONS;
+use crate::limits::ROWS;
 use crate::mark::Mark;
 use crate::record::Journal;
-use crate::record::table::MOST_TRANSACTIONS;
 use crate::record::table::Table;
 use crate::refusal::Refusal;
-use crate::transaction::MOST_READS;
-use crate::transaction::ROWS;
 use crate::transaction::State;
 use crate::transaction::Transaction;
 
-/// How many kiosks there are.
-const KIOSKS: u8 = 8;
-
 impl Journal {
     /// A journal in which nothing has begun. Whatever calls are made of it, their history meets
-    /// the rules, and what has ended in it stays as it is.
+    /// the rules, a read of a row of one's own and a repeated write change nothing in it, and
+    /// what has ended in it stays as it is.
     pub fn new() -> Journal
         ensures empty { λ r. ⌜ of-journal r ≡ [] ⌝ }
         ensures rules { λ _. ⌜ ((h : History) → Reached h → Rules h) ⌝ }
+        ensures own { λ _. ⌜ Own-rows-stay ⌝ }
         ensures stays { λ _. ⌜ Ended-stays ⌝ }
     {
         Journal {
@@ -76,7 +76,7 @@ impl Journal {
     /// The transaction with the number, after it has read the row from the source.
     fn reader_after(&self, number: u8, row: u8, source: u8) -> Result<Transaction, Refusal>
         requires { ⌜ Has-number (of-journal (now self)) number ⌝ }
-        ensures { λ r. ⌜ Gives (reader-after most-reads (of-journal (now (self .entry))) number (numbered (of-journal (now (self .entry))) number) row source) r ⌝ }
+        ensures { λ r. ⌜ mapped txn (λ e. e) r ≡ reader-after most-reads (of-journal (now (self .entry))) number (numbered (of-journal (now (self .entry))) number) row source ⌝ }
     {
         let reader = self.table.at(number);
         if reader.wrote(row) {

@@ -2,12 +2,10 @@ ghost use Prim.Native.Nat.{_≤_};
 ghost use Rattle.journal.specs.Limits.{most-transactions};
 ghost use lib.ListN.{length};
 ghost use mathlib.Core.Path.{_≡_};
+use crate::limits::MOST_TRANSACTIONS;
 use crate::transaction::Transaction;
 
 mod entries;
-
-/// The most transactions that can begin.
-pub(crate) const MOST_TRANSACTIONS: usize = 32;
 
 /// The transactions that have begun: the first `begun` of the table, number 1 first.
 #[derive(Drop)]

@@ -4,10 +4,10 @@ ghost use Rattle.journal.specs.Recorded.{txn};
 ghost use Rattle.journal.specs.Transactions.{begun, with-read, with-row, with-state};
 ghost use lib.ListN.{length};
 ghost use mathlib.Core.Path.{_≡_};
+use crate::limits::MOST_READS;
+use crate::limits::ROWS;
 use crate::mark::Mark;
-use crate::transaction::MOST_READS;
 use crate::transaction::OuterRead;
-use crate::transaction::ROWS;
 use crate::transaction::State;
 use crate::transaction::Transaction;
 

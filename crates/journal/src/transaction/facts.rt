@@ -4,9 +4,9 @@ ghost use Rattle.journal.specs.Recorded.{txn};
 ghost use Rattle.journal.specs.Transactions.{counted, has-row, serves};
 ghost use lib.ListN.{length};
 ghost use mathlib.Core.Path.{_≡_};
+use crate::limits::ROWS;
 use crate::mark::Mark;
 use crate::transaction::OuterRead;
-use crate::transaction::ROWS;
 use crate::transaction::State;
 use crate::transaction::Transaction;
 

@@ -1,6 +1,6 @@
 use borrow.Author.Needs.{needs}
-use Rattle.tape.proofs.Decimals.{fault-text, length-decimal-20}
-use Rattle.tape.proofs.Texts.{first, regrouped, then}
+use Rattle.tape.proofs.Decimals.{length-decimal-20}
+use Rattle.tape.proofs.Texts.{fault-text, first, regrouped, then}
 use Rattle.tape.proofs.line.write_fault.Needs as need
 
 pub put-decimal-end-requires : need.put-decimal-end-requires
