@@ -6,6 +6,7 @@ pub mod Opens
 pub mod Changes
 pub mod Sources
 pub mod Soundness
+pub mod Rooms
 pub mod Latest
 pub mod Conditions
 pub mod Endings

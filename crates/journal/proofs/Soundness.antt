@@ -8,7 +8,7 @@ use Rattle.std.specs.List.{AllByRecursion as All}
 use Rattle.std.proofs.lemmas.List.{length-set, length_push, get_or_append_left, get_or_push}
 use Rattle.std.proofs.ByRecursion.{All-get_or, All-set, All-push, All-weaker}
 use Rattle.std.proofs.lemmas.Bool.{cases_lt, and_from, eq-eqb, both_ways}
-use Rattle.journal.specs.Limits.{most_transactions, most_reads}
+use Rattle.journal.specs.Limits.{most_reads}
 use Rattle.journal.specs.Transactions.{Txn, is_open, open_at, begun}
 use Rattle.journal.specs.History.{History, Call, Reached, history, history_from, after, nobody, numbered, can_serve}
 use Rattle.journal.specs.declared.transaction.OuterRead.{OuterRead}
@@ -20,9 +20,8 @@ use Rattle.journal.proofs.Sources.{serve_kept}
 abbrev pub Serves : History → OuterRead → Type 0
 Serves h r = can_serve h r.row r.source ≡ true
 
--- Few transactions with few reads, every source can serve, and of two transactions of a kiosk the earlier has ended.
+-- Few reads, every source can serve, and of two transactions of a kiosk the earlier has ended.
 pub record Sound (h : History) : Type 0 where
-  pub room : length h ≤ most_transactions
   pub few : All (λ t. length t.reads ≤ most_reads) h
   pub served : All (λ t. All (Serves h) t.reads) h
   pub ended : (i j : ℕ) → i < j → j < length h → (get_or h i nobody).kiosk ≡ (get_or h j nobody).kiosk → is_open (get_or h i nobody).state ≡ false
@@ -68,7 +67,6 @@ pub sound_change : (h h' : History) → Change h h' → Sound h → Sound h'
 sound_change h h' same s = s
 sound_change h h' (more k m kl o l) s =
     record {
-      room = omega (arith, length_push h (begun k m));
       few = All-push (λ t. length t.reads ≤ most_reads) h (begun k m) s.few (omega arith);
       served = All-push (λ t. All (Serves h') t.reads) h (begun k m) (all_served h h' (more k m kl o l) s.served) tt;
       ended = λ i j lt jl e. elim (cases_lt j (length h)) [
@@ -92,7 +90,6 @@ sound_change h h' (edited k n t o d) s =
     let kiosk : (i : ℕ) → (get_or h' i nobody).kiosk ≡ (get_or h i nobody).kiosk = λ i. set_cases (λ x. x.kiosk ≡ (get_or h i nobody).kiosk) h (n - 1) i t lt (λ e. rw e (edit_kiosk h (numbered h n) t d)) (λ ne. refl) in
     let over : (i : ℕ) → is_open (get_or h i nobody).state ≡ false → is_open (get_or h' i nobody).state ≡ false = λ i. set_cases (λ x. is_open (get_or h i nobody).state ≡ false → is_open x.state ≡ false) h (n - 1) i t lt (λ e. rw e (edit_ended h (numbered h n) t d)) (λ ne z. z) in
     record {
-      room = (let r = s.room in omega (arith, length-set h (n - 1) t));
       few = All-set (λ t. length t.reads ≤ most_reads) h (n - 1) t (edit_few h (numbered h n) t d (All-get_or (λ t. length t.reads ≤ most_reads) h (n - 1) nobody lt s.few)) s.few;
       served =
           let a = all_served h h' (edited k n t o d) s.served in
@@ -101,7 +98,7 @@ sound_change h h' (edited k n t o d) s =
     }
 
 pub sound_none : Sound []
-sound_none = record { room = omega arith; few = tt; served = tt; ended = λ i j ij jl e. absurd (omega arith) }
+sound_none = record { few = tt; served = tt; ended = λ i j ij jl e. absurd (omega arith) }
 
 pub sound_from : (h : History) (cs : List Call) → Sound h → Sound (history_from h cs)
 sound_from h [] s = s
@@ -117,7 +114,6 @@ all_prop P p (x ∷ xs) = ×_prop (p x) (all_prop P p xs)
 
 sound_prop : (h : History) → IsProp (Sound h)
 sound_prop h a b = λ i. record {
-  room = le_prop a.room b.room i;
   few = all_prop _ (λ t. le_prop) h a.few b.few i;
   served = all_prop _ (λ t. all_prop (Serves h) (λ r. Bool-set _ _) t.reads) h a.served b.served i;
   ended = λ m n x y u. Bool-set _ _ (a.ended m n x y u) (b.ended m n x y u) i;

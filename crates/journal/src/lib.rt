@@ -1,5 +1,7 @@
 //! The journal of transactions: what kiosks may record, and what is then recorded.
 
+#![tactic(auto)]
+
 mod event;
 pub mod limits;
 pub mod mark;

@@ -1,3 +1,5 @@
+#![tactic(auto)]
+
 use anyhow::anyhow;
 use std::io::{Read, Write};
 use tape::{Failure, LONGEST_TAPE, play_all};

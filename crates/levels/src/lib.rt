@@ -1,5 +1,7 @@
 //! Isolation levels: which runs of committed transactions they allow, and layers over levels.
 
+#![tactic(auto)]
+
 mod closed;
 mod dependencies;
 pub mod layers;

@@ -1,5 +1,7 @@
 //! Tapes: records of calls as bytes, and the lines that playing them prints.
 
+#![tactic(auto)]
+
 pub mod decoding;
 pub mod failure;
 pub mod limits;

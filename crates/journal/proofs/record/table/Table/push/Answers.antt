@@ -11,8 +11,8 @@ listed c = omega (arith, length-recorded c.args.self.now)
 pub bounds-self-self : goal.bounds-self-self
 bounds-self-self c = omega (arith, length-recorded c.args.self.now)
 
-pub invariant-of-self : goal.invariant-of-self
-invariant-of-self c = ((omega (arith, length-recorded c.args.self.now), simp length-set (omega arith)), tt)
+pub invariant_of-self : goal.invariant_of-self
+invariant_of-self c = record { within = (omega (arith, length-recorded c.args.self.now), simp length-set (omega arith)) }
 
 pub returns : goal.returns
 returns c =
