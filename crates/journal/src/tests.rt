@@ -49,7 +49,7 @@ fn what_is_recorded_can_be_read(rt: HostRuntime) -> Result<(), Fail> {
     assert_eq!(rt; t.kiosk(), 7);
     assert_eq!(rt; t.mark(), Mark::Serializable);
     assert_eq!(rt; t.state(), State::Committed);
-    assert_eq!(rt; t.reads(), &[OuterRead { row: 63, source: 0 }]);
+    assert_eq!(rt; t.reads(), [OuterRead { row: 63, source: 0 }].as_slice());
     assert!(rt; t.wrote(63) && !t.wrote(62) && !t.wrote(64));
     Ok(())
 }
