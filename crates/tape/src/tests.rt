@@ -33,11 +33,11 @@ fn lines_of_playing(rt: HostRuntime) {
     let mut line = [7; 96];
     let tape = b"B\x00\x06A\x01J";
     assert_eq!(rt; play(&mut journal, tape, 0, &mut line), Ok(Some((3, 4))));
-    assert_eq!(rt; &line[..5], b"B 1\n\x07");
+    assert_eq!(rt; &line[..5], b"B 1\n\x07".as_slice());
     assert_eq!(rt; play(&mut journal, tape, 3, &mut line), Ok(Some((5, 5))));
-    assert_eq!(rt; &line[..6], b"A !5\n\x07");
+    assert_eq!(rt; &line[..6], b"A !5\n\x07".as_slice());
     assert_eq!(rt; play(&mut journal, tape, 5, &mut line), Ok(Some((6, 10))));
-    assert_eq!(rt; &line[..11], b"? 12 at 5\n\x07");
+    assert_eq!(rt; &line[..11], b"? 12 at 5\n\x07".as_slice());
 }
 
 #[test]
@@ -65,7 +65,7 @@ fn whole_tapes(rt: HostRuntime) -> Result<(), Fail> {
     let lines = play_all(rt.alloc(), tape)?;
     assert_eq!(rt;
         lines.as_slice(),
-        b"B 1\nR 1\nW 1\nC 1\nB 2\nR 1\nW 1\nC 2\n"
+        b"B 1\nR 1\nW 1\nC 1\nB 2\nR 1\nW 1\nC 2\n".as_slice()
     );
     assert!(rt; play_all(rt.alloc(), b"")?.is_empty());
     Ok(())

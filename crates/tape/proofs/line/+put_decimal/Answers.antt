@@ -9,8 +9,8 @@ put-requires t c = search (rules, decimal_digit)
 pub returns-then-n-lt10 : goal.returns-then-n-lt10
 returns-then-n-lt10 t c = search (rules, decimal_digit)
 
-pub put-decimal-end-requires : goal.put-decimal-end-requires
-put-decimal-end-requires t c = search (rules, length-decimal_more)
+pub put_decimal-end-requires : goal.put_decimal-end-requires
+put_decimal-end-requires t c = search (rules, length-decimal_more)
 
 pub put-requires-2 : goal.put-requires-2
 put-requires-2 t c = search (rules, length-decimal_more)

@@ -13,11 +13,11 @@ returns-in-End c =
 
 pub returns-in-Record : goal.returns-in-Record
 returns-in-Record c =
-    let t = same_line c.letter.ensures c.carry-out-answer.ensures.answers in
+    let t = same_line c.letter.ensures c.carry_out-answer.ensures.answers in
     record {
       onward = search rules;
       turned = turned c.in-Record.ensures.value
-          (record { answers = some_line _ c.write-answer.ensures.end t; writes = c.write-answer.ensures.line ∙ ap (written c.args.line.now 0) t; records = c.carry-out-answer.ensures.records; keeps = kept_by c.args.journal.now c.carry-out-answer.new.journal c.carry-out-answer.ensures.answers c.carry-out-answer.ensures.keeps });
+          (record { answers = some_line _ c.write_answer.ensures.end t; writes = c.write_answer.ensures.line ∙ ap (written c.args.line.now 0) t; records = c.carry_out-answer.ensures.records; keeps = kept_by c.args.journal.now c.carry_out-answer.new.journal c.carry_out-answer.ensures.answers c.carry_out-answer.ensures.keeps });
     }
 
 pub returns-in-Faulty : goal.returns-in-Faulty
@@ -25,5 +25,5 @@ returns-in-Faulty c =
     record {
       onward = search rules;
       turned = turned c.in-Faulty.ensures.value
-          (record { answers = some_line _ {text = fault_line c.in-Faulty.fault} c.write-fault.ensures.end refl; writes = c.write-fault.ensures.line; records = refl; keeps = refl });
+          (record { answers = some_line _ {text = fault_line c.in-Faulty.fault} c.write_fault.ensures.end refl; writes = c.write_fault.ensures.line; records = refl; keeps = refl });
     }
