@@ -7,8 +7,8 @@ module _ {A B : Type 0} (f : A → B) where
   pub length_part : (n : ℕ) (xs : List A) → n ≤ length xs → length (map f (take n xs)) ≡ n
   length_part n xs h = length-map (take n xs) f ∙ length-take-le n xs h
 
-  pub get_d_part : (n : ℕ) (xs : List A) (i : ℕ) (d : A) (e : B) → i < n → n ≤ length xs → get_or (map f (take n xs)) i e ≡ f (get_or xs i d)
-  get_d_part n xs i d e lt le =
+  pub get_or_part : (n : ℕ) (xs : List A) (i : ℕ) (d : A) (e : B) → i < n → n ≤ length xs → get_or (map f (take n xs)) i e ≡ f (get_or xs i d)
+  get_or_part n xs i d e lt le =
       let short : i < length (take n xs) = omega (arith, length-take-le n xs le) in
       get_or-map f (take n xs) i d e short ∙ ap f (get_or-take n xs i d lt)
 

@@ -30,13 +30,13 @@ fn put_decimal(line: &mut [u8], at: usize, n: usize) -> usize
 }
 
 /// Writes an answer, or `!` and the number of a refusal.
-fn put_outcome(line: &mut [u8], at: usize, res: Result<u8, Refusal>) -> usize
+fn put_outcome(line: &mut [u8], at: usize, answer: Result<u8, Refusal>) -> usize
     requires { at + 21 ≤ length line.old }
-    ensures line { line.new ≡ written line.old at (outcome res) }
-    ensures end { result ≡ at + length (outcome res) }
+    ensures line { line.new ≡ written line.old at (outcome answer) }
+    ensures end { result ≡ at + length (outcome answer) }
     ensures short { result ≤ at + 21 }
 {
-    match res {
+    match answer {
         Ok(number) => put_decimal(line, at, number as usize),
         Err(refusal) => {
             let end = put(line, at, b"!");
@@ -46,14 +46,14 @@ fn put_outcome(line: &mut [u8], at: usize, res: Result<u8, Refusal>) -> usize
 }
 
 /// Writes the line of a call's answer, and gives its length.
-pub(crate) fn write_answer(line: &mut [u8], letter: u8, res: Result<u8, Refusal>) -> usize
+pub(crate) fn write_answer(line: &mut [u8], letter: u8, answer: Result<u8, Refusal>) -> usize
     requires { line_room ≤ length line.old }
-    ensures line { line.new ≡ written line.old 0 (answer_line letter res) }
-    ensures end { result ≡ length (answer_line letter res) }
+    ensures line { line.new ≡ written line.old 0 (answer_line letter answer) }
+    ensures end { result ≡ length (answer_line letter answer) }
     ensures short { result ≤ line_room }
 {
     let end = put(line, 0, &[letter, b' ']);
-    let end = put_outcome(line, end, res);
+    let end = put_outcome(line, end, answer);
     put(line, end, b"\n")
 }
 
