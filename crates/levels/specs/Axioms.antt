@@ -17,7 +17,7 @@ pub record Obeys (Sees : Sight) (h : History) (run : List ℕ) : Type 0 where
   pub closed : Closed h run
   pub reads : (i j : ℕ) → i < length (reads_at h (last run)) → j < length run - 1 → wrote h (member run j) (row_of (reads_at h (last run)) i) ≡ true → Sees h run i j → member run j ≢ source_of (reads_at h (last run)) i → Later run (source_of (reads_at h (last run)) i) j
 
--- It is session_before the last member, or an earlier outer read of that one, of whichever row, has it as its source.
+-- It is session-before the last member, or an earlier outer read of that one, of whichever row, has it as its source.
 abbrev pub ReadCommitted : Sight
 ReadCommitted h run i j = SessionBefore h (member run j) (last run) ⊎ ((k : ℕ) × (k < i) × (source_of (reads_at h (last run)) k ≡ member run j))
 

@@ -24,7 +24,7 @@ abbrev pub Once : List ℕ → ℕ → Type 0
 Once run j = (k : ℕ) → k < length run → member run k ≡ member run j → k ≡ j
 
 -- The member at the place is committed and does not stand earlier, but all that it rests on does:
--- the committed transactions that are session_before it, and its sources other than the opening state.
+-- the committed transactions that are session-before it, and its sources other than the opening state.
 pub record Rests (h : History) (run : List ℕ) (i : ℕ) : Type 0 where
   pub ended : committed h (member run i) ≡ true
   pub once : Earlier run (member run i) i → ⊥

@@ -42,7 +42,7 @@ fn is_at_kiosk(journal: &Journal, number: u8, kiosk: u8) -> bool
     }
 }
 
-/// The transactions that are session_before the one with the number.
+/// The transactions that are session-before the one with the number.
 pub(crate) fn sessions_before(journal: &Journal, number: u8) -> Numbers
     ensures { (u : ℕ) → u ≤ most_transactions → has result u ≡ session_before (of_journal journal.now) u number }
 {

@@ -8,7 +8,7 @@ use crate::numbers::Numbers;
 use crate::visibility::Visibility;
 use journal::{Journal, OuterRead};
 
-/// What is session_before the last member is visible, and so are the sources of its earlier reads.
+/// What is session-before the last member is visible, and so are the sources of its earlier reads.
 #[derive(Drop)]
 pub struct ReadCommitted;
 

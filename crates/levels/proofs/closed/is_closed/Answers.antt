@@ -15,13 +15,13 @@ use Rattle.levels.proofs.closed.is_closed.Goals as goal
 pub loop-number-init : goal.loop-number-init
 loop-number-init c = (refl, c.none-seen.ensures)
 
-pub returns-then-not-rests-on : goal.returns-then-not-rests-on
-returns-then-not-rests-on c =
+pub returns-then-not-rests_on : goal.returns-then-not-rests_on
+returns-then-not-rests_on c =
     let h = of_journal c.args.journal.now in
     let run = c.args.run.now in
     let i = c.loop-number.number-index in
     let seen : has c.loop-number.seen ≡ (λ n. earlier run n i) = fun_ext c.loop-number.invariant.1 in
-    sym (all_fails (rests h run) _ i c.loop-number-test.true (ap (λ f. rests_on h f (member run i)) (sym seen) ∙ sym c.if-not-rests-on.ensures))
+    sym (all_fails (rests h run) _ i c.loop-number-test.true (ap (λ f. rests_on h f (member run i)) (sym seen) ∙ sym c.if-not-rests_on.ensures))
 
 pub loop-number-preserved : goal.loop-number-preserved
 loop-number-preserved c =
@@ -30,7 +30,7 @@ loop-number-preserved c =
     let i = c.loop-number.number-index in
     let t = member run i in
     let seen : has c.loop-number.seen ≡ (λ n. earlier run n i) = fun_ext c.loop-number.invariant.1 in
-    let yes : rests_on h (has c.loop-number.seen) t ≡ true = sym c.if-not-rests-on.ensures in
+    let yes : rests_on h (has c.loop-number.seen) t ≡ true = sym c.if-not-rests_on.ensures in
     let fits : t ≤ most_transactions = number_fits h c.args.journal.now.reached t (and_parts (committed h t) _ yes).0 in (
       all_more (rests h run) i (ap (λ f. rests_on h f t) (sym seen) ∙ yes) c.loop-number.invariant.0,
       λ n. elim (cases_lt n 33) [

@@ -8,11 +8,11 @@ use Rattle.levels.proofs.dependencies.share_a_row.Goals as goal
 abbrev shared : Txn → Txn → ℕ → Bool
 shared a b n = has_row a n && has_row b n
 
-pub returns-then-share-row : goal.returns-then-share-row
-returns-then-share-row c = sym (some_holds (shared (txn c.args.a.now) (txn c.args.b.now)) 64 c.loop-row.row c.loop-row-test.true (sym c.if-share-row.ensures))
+pub returns-then-share_row : goal.returns-then-share_row
+returns-then-share_row c = sym (some_holds (shared (txn c.args.a.now) (txn c.args.b.now)) 64 c.loop-row.row c.loop-row-test.true (sym c.if-share_row.ensures))
 
 pub loop-row-preserved : goal.loop-row-preserved
-loop-row-preserved c = some_more (shared (txn c.args.a.now) (txn c.args.b.now)) c.loop-row.row (sym c.if-share-row.ensures) c.loop-row.invariant
+loop-row-preserved c = some_more (shared (txn c.args.a.now) (txn c.args.b.now)) c.loop-row.row (sym c.if-share_row.ensures) c.loop-row.invariant
 
 pub returns : goal.returns
 returns c =

@@ -12,34 +12,34 @@ use Rattle.levels.proofs.Members.{member_fits}
 use Rattle.levels.proofs.Asking.{not_closed, ends_in_nobody, not_kept, all_kept, kept_by, answers, ends_in_somebody}
 use Rattle.levels.proofs.rule.RuleLevel.allows.Goals as goal
 
-pub returns-then-not-is-closed : goal.returns-then-not-is-closed
-returns-then-not-is-closed g c =
+pub returns-then-not-is_closed : goal.returns-then-not-is_closed
+returns-then-not-is_closed g c =
     let v = c.args.self.now.visibility in
     let h = of_journal c.args.journal.now in
     let run = c.args.run.now in
-    answers (g.V.Visibility.visible v) h run (g.V.Visibility.sees v) (g.met.V.Visibility.tells v) (not_closed (g.V.Visibility.visible v) h run (sym c.if-not-is-closed.ensures))
+    answers (g.V.Visibility.visible v) h run (g.V.Visibility.sees v) (g.met.V.Visibility.tells v) (not_closed (g.V.Visibility.visible v) h run (sym c.if-not-is_closed.ensures))
 
-pub returns-in-default : goal.returns-in-default
-returns-in-default g c =
+pub returns-in_default : goal.returns-in_default
+returns-in_default g c =
     let v = c.args.self.now.visibility in
     let h = of_journal c.args.journal.now in
     let run = c.args.run.now in
-    answers (g.V.Visibility.visible v) h run (g.V.Visibility.sees v) (g.met.V.Visibility.tells v) (ends_in_nobody (g.V.Visibility.visible v) h run (sym c.if-not-is-closed.ensures) (sym c.in-default.ensures))
+    answers (g.V.Visibility.visible v) h run (g.V.Visibility.sees v) (g.met.V.Visibility.tells v) (ends_in_nobody (g.V.Visibility.visible v) h run (sym c.if-not-is_closed.ensures) (sym c.in_default.ensures))
 
 pub loop-read-init : goal.loop-read-init
-loop-read-init g c = (refl, c.first-seen.ensures ((closed_decides (of_journal c.args.journal.now) c.args.run.now).0 (sym c.if-not-is-closed.ensures)))
+loop-read-init g c = (refl, c.first-seen.ensures ((closed_decides (of_journal c.args.journal.now) c.args.run.now).0 (sym c.if-not-is_closed.ensures)))
 
-pub returns-then-not-is-kept : goal.returns-then-not-is-kept
-returns-then-not-is-kept g c =
+pub returns-then-not-is_kept : goal.returns-then-not-is_kept
+returns-then-not-is_kept g c =
     let v = c.args.self.now.visibility in
     let h = of_journal c.args.journal.now in
     let run = c.args.run.now in
     let i = c.loop-read.read-index in
     let reads : c.reads-read-items.result.now ≡ reads_at h (last run) = c.reads-read-items.ensures.list ∙ ap reads_in c.in-Some.ensures in
     let l = c.loop-read-test.true in
-    let fits = member_fits h c.args.journal.now.reached run ((closed_decides h run).0 (sym c.if-not-is-closed.ensures)) in
+    let fits = member_fits h c.args.journal.now.reached run ((closed_decides h run).0 (sym c.if-not-is_closed.ensures)) in
     answers (g.V.Visibility.visible v) h run (g.V.Visibility.sees v) (g.met.V.Visibility.tells v)
-    (not_kept (g.V.Visibility.visible v) h run i (omega (arith, ap length reads)) (sym (kept_by (g.V.Visibility.visible v) h run i c.loop-read.seen _ fits c.loop-read.invariant.1 (ap (λ rs. get_or rs i no_read) (sym reads))) ∙ sym c.if-not-is-kept.ensures))
+    (not_kept (g.V.Visibility.visible v) h run i (omega (arith, ap length reads)) (sym (kept_by (g.V.Visibility.visible v) h run i c.loop-read.seen _ fits c.loop-read.invariant.1 (ap (λ rs. get_or rs i no_read) (sym reads))) ∙ sym c.if-not-is_kept.ensures))
 
 pub loop-read-preserved : goal.loop-read-preserved
 loop-read-preserved g c =
@@ -50,9 +50,9 @@ loop-read-preserved g c =
     let reads : c.reads-read-items.result.now ≡ reads_at h (last run) = c.reads-read-items.ensures.list ∙ ap reads_in c.in-Some.ensures in
     let l = c.loop-read-test.true in
     let at = ap (λ rs. get_or rs i no_read) (sym reads) in
-    let is_closed = (closed_decides h run).0 (sym c.if-not-is-closed.ensures) in
+    let is_closed = (closed_decides h run).0 (sym c.if-not-is_closed.ensures) in
     let fits = member_fits h c.args.journal.now.reached run is_closed in (
-      all_more (read_kept (g.V.Visibility.visible v) h run) i (sym (kept_by (g.V.Visibility.visible v) h run i c.loop-read.seen _ fits c.loop-read.invariant.1 at) ∙ sym c.if-not-is-kept.ensures) c.loop-read.invariant.0,
+      all_more (read_kept (g.V.Visibility.visible v) h run) i (sym (kept_by (g.V.Visibility.visible v) h run i c.loop-read.seen _ fits c.loop-read.invariant.1 at) ∙ sym c.if-not-is_kept.ensures) c.loop-read.invariant.0,
       subst (λ (n : ℕ). Shows (g.V.Visibility.visible v) h run n c.next-seen.result) (sym (add-one i)) (c.next-seen.ensures h run i c.args.journal.now.reached is_closed (omega (arith, ap length reads)) at c.loop-read.invariant.1),
     )
 
@@ -67,4 +67,4 @@ returns g c =
     let e : c.loop-read.read-index ≡ length (reads_at h (last run)) = omega (arith, ap length reads) in
     let some : 0 < length run = ends_in_somebody h run (λ z. both_ways true (ap is_some (c.in-Some.ensures ∙ z)) refl) in
     answers (g.V.Visibility.visible v) h run (g.V.Visibility.sees v) (g.met.V.Visibility.tells v)
-    (all_kept (g.V.Visibility.visible v) h run some (sym c.if-not-is-closed.ensures) (subst (λ (n : ℕ). all_below (read_kept (g.V.Visibility.visible v) h run) n ≡ true) e c.loop-read.invariant.0))
+    (all_kept (g.V.Visibility.visible v) h run some (sym c.if-not-is_closed.ensures) (subst (λ (n : ℕ). all_below (read_kept (g.V.Visibility.visible v) h run) n ≡ true) e c.loop-read.invariant.0))

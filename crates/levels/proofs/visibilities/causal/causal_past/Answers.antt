@@ -14,7 +14,7 @@ pub loop-j-init : goal.loop-j-init
 loop-j-init c d n l =
     let h = of_journal c.args.journal.now in
     let run = c.args.run.now in
-    c.direct-found.ensures n l ∙ ap (direct h n) c.last-number.ensures ∙ sym (ap (λ k. linked h n (past h (drop k run))) c.saturating-sub-j.ensures ∙ pass_starts h run n)
+    c.direct-found.ensures n l ∙ ap (direct h n) c.last_number.ensures ∙ sym (ap (λ k. linked h n (past h (drop k run))) c.saturating_sub-j.ensures ∙ pass_starts h run n)
 
 pub loop-j-preserved-then-holds : goal.loop-j-preserved-then-holds
 loop-j-preserved-then-holds c d n l =
@@ -24,7 +24,7 @@ loop-j-preserved-then-holds c d n l =
     let a = c.loop-j-test.true in
     let b = c.loop-j.auto.j in
     let next : c.loop-j.j ≡ suc j = omega arith in
-    let lj : suc j < length run = omega (arith, c.saturating-sub-j.ensures) in
+    let lj : suc j < length run = omega (arith, c.saturating_sub-j.ensures) in
     let held : (m : ℕ) → m ≤ most_transactions → has c.loop-j.found m ≡ linked h m (past h (drop (suc j) run)) = λ m lm. c.loop-j.invariant d m lm ∙ ap (λ k. linked h m (past h (drop k run))) next in
     let fits = member_fits h c.args.journal.now.reached run d j (omega arith) in
     c.add.ensures n
@@ -40,7 +40,7 @@ loop-j-preserved c d n l =
     let a = c.loop-j-test.true in
     let b = c.loop-j.auto.j in
     let next : c.loop-j.j ≡ suc j = omega arith in
-    let lj : suc j < length run = omega (arith, c.saturating-sub-j.ensures) in
+    let lj : suc j < length run = omega (arith, c.saturating_sub-j.ensures) in
     let held : (m : ℕ) → m ≤ most_transactions → has c.loop-j.found m ≡ linked h m (past h (drop (suc j) run)) = λ m lm. c.loop-j.invariant d m lm ∙ ap (λ k. linked h m (past h (drop k run))) next in
     let fits = member_fits h c.args.journal.now.reached run d j (omega arith) in
     held n l ∙ sym (pass_skips h run j n lj (sym (held (member run j) fits) ∙ sym c.if-holds.ensures))

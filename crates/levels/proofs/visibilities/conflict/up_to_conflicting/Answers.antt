@@ -12,5 +12,5 @@ pub returns : goal.returns
 returns c d j l fits =
     let h = of_journal c.args.journal.now in
     let run = c.args.run.now in
-    marked_shows h run c.args.journal.now.reached d (has c.up-to-marked.result) (has c.conflicting.result) (λ v. both_wrote h v (last run)) c.up-to-marked.ensures
+    marked_shows h run c.args.journal.now.reached d (has c.up_to_marked.result) (has c.conflicting.result) (λ v. both_wrote h v (last run)) c.up_to_marked.ensures
     (λ k lk fits. c.conflicting.ensures (member run k) fits ∙ and_yes (both_wrote h (member run k) (last run)) (earlier run (member run k) (length run)) ((earlier_decides run (member run k) (length run)).1 (k, lk, refl))) j l

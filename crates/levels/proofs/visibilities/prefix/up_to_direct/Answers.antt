@@ -10,5 +10,5 @@ pub returns : goal.returns
 returns c d j l fits =
     let h = of_journal c.args.journal.now in
     let run = c.args.run.now in
-    marked_shows h run c.args.journal.now.reached d (has c.up-to-marked.result) (has c.direct.result) (λ v. direct h v (last run)) c.up-to-marked.ensures
-    (λ k lk fits. c.direct.ensures (member run k) fits ∙ ap (direct h (member run k)) c.last-number.ensures) j l
+    marked_shows h run c.args.journal.now.reached d (has c.up_to_marked.result) (has c.direct.result) (λ v. direct h v (last run)) c.up_to_marked.ensures
+    (λ k lk fits. c.direct.ensures (member run k) fits ∙ ap (direct h (member run k)) c.last_number.ensures) j l

@@ -23,7 +23,7 @@ returns c =
     let a = c.loop-k-test.false in
     let b = c.loop-k.auto.k-end in
     let before = c.loop-k.invariant.0 in
-    let e : c.loop-k.k ≡ n - 1 = omega (arith, c.saturating-sub-k-end.ensures) in
+    let e : c.loop-k.k ≡ n - 1 = omega (arith, c.saturating_sub-k-end.ensures) in
     record {
       reach = λ j. subst (λ (q : ℕ). some_below (λ m. leb j m && p m) q ≡ ltb j c.loop-k.reach) e (c.loop-k.invariant.1 j);
       within = omega (arith, e);

@@ -15,5 +15,5 @@ returns c j lj l once =
     let run = c.args.run.now in
     let a = c.loop-k-test.false in
     let b = c.loop-k.auto.k-end in
-    let w = c.marked-length-k-end.ensures.within in
-    c.loop-k.invariant (member run j) l ∙ once_earlier run j c.loop-k.k once (omega arith) (omega arith) ∙ ap (ltb j) (omega arith) ∙ sym (c.marked-length-k-end.ensures.reach j)
+    let w = c.marked_length-k-end.ensures.within in
+    c.loop-k.invariant (member run j) l ∙ once_earlier run j c.loop-k.k once (omega arith) (omega arith) ∙ ap (ltb j) (omega arith) ∙ sym (c.marked_length-k-end.ensures.reach j)
