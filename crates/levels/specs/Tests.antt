@@ -1,5 +1,5 @@
 -- The words of runs and dependencies as tests that compute.
-use Rattle.std.specs.Prelude.{ℕ, zero, suc, ◌-◌, Bool, true, false, not, ◌&&◌, ◌||◌, List, length, Some, None, Option, ◌==◌, nat_eq, nat_lt}
+use Rattle.std.specs.Prelude.{ℕ, zero, suc, Bool, true, false, not, ◌&&◌, ◌||◌, List, length, Some, None, Option, ◌==◌, nat_eq, nat_lt}
 use Rattle.journal.specs.Limits.{row_count}
 use Rattle.journal.specs.History.{History}
 use Rattle.journal.specs.Dependencies.{kiosk_at, reads_at, source_of, wrote, committed}

@@ -1,4 +1,4 @@
-use Rattle.std.proofs.Common.{◌-◌, ◌||◌, eqb, ltb, sym, ap, ◌∙◌, add-one, arith}
+use Rattle.std.proofs.Common.{◌||◌, eqb, ltb, sym, ap, ◌∙◌, add-one, arith}
 use Rattle.levels.specs.Runs.{member}
 use Rattle.levels.specs.Tests.{earlier}
 use Rattle.levels.proofs.Places.{once_earlier}
