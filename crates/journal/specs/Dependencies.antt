@@ -1,5 +1,5 @@
 -- What the transaction of a number is, and which transactions it depends on. A number that nobody has, has nothing.
-use Rattle.std.specs.Prelude.{◌≡◌, ℕ, ◌<◌, Bool, true, false, ◌⊎◌, List, [], length, get_or, Some, None, Option, slice_index_or}
+use Rattle.std.specs.Prelude.{◌≡◌, ℕ, ◌<◌, Bool, true, false, ◌⊎◌, List, [], length, Some, None, Option, slice_index_or}
 use Rattle.std.specs.Option.{option_map}
 use Rattle.journal.specs.Limits.{row_count}
 use Rattle.journal.specs.Transactions.{Txn, is_committed}
@@ -44,10 +44,10 @@ no_read = record { row = 0; source = 0 }
 
 -- The row, and the source, of one of a list of outer reads, counted from 0. Only below the list's length.
 abbrev pub row_of : List OuterRead → ℕ → ℕ
-row_of reads i = (get_or reads i no_read).row
+row_of reads i = (slice_index_or reads i no_read).row
 
 abbrev pub source_of : List OuterRead → ℕ → ℕ
-source_of reads i = (get_or reads i no_read).source
+source_of reads i = (slice_index_or reads i no_read).source
 
 -- u has the same kiosk as t, and the lower number.
 pub record SessionBefore (h : History) (u t : ℕ) : Type 0 where
