@@ -5,7 +5,7 @@ use Rattle.std.specs.Option.{ok_or}
 use Rattle.journal.specs.Limits.{kiosk_count, row_count, most_transactions, most_reads}
 use Rattle.journal.specs.Marks.{mark_of}
 use Rattle.journal.specs.Transactions.{Txn, is_open, has_row, begun, with_state, with_read, with_row}
-use Rattle.journal.specs.History.{History, Call, begin, read, write, commit, abort, Step, after, next, refuse_if, then, by_open, numbered, open_number, can_serve, changed, reader_after}
+use Rattle.journal.specs.History.{History, Call, begin, read, write, commit, abort, Step, after, next, refuse_if, and_then, by_open, numbered, open_number, can_serve, changed, reader_after}
 use Rattle.journal.specs.declared.mark.Mark.{Mark}
 use Rattle.journal.specs.declared.refusal.Refusal.{Refusal}
 use Rattle.journal.specs.declared.refusal.Refusal.TheVariants.{NotOwnNumber, NoSuchSource, TooManyReads}
@@ -29,11 +29,11 @@ module _ (h : History) (P : History → Type 0) (same : P h) where
   by_refuse true w rest f = same
   by_refuse false w rest f = f refl
 
-  by_then : {A : Type 0} (r : Result A Refusal) (f : A → Step) → ((x : A) → r ≡ Ok x → P (next h (f x))) → P (next h (then r f))
+  by_then : {A : Type 0} (r : Result A Refusal) (f : A → Step) → ((x : A) → r ≡ Ok x → P (next h (f x))) → P (next h (and_then r f))
   by_then (Ok x) f g = g x refl
   by_then (Err e) f g = same
 
-  by_found : {A : Type 0} (o : Option A) (w : Refusal) (f : A → Step) → ((x : A) → o ≡ Some x → P (next h (f x))) → P (next h (then (ok_or o w) f))
+  by_found : {A : Type 0} (o : Option A) (w : Refusal) (f : A → Step) → ((x : A) → o ≡ Some x → P (next h (f x))) → P (next h (and_then (ok_or o w) f))
   by_found (Some x) w f g = g x refl
   by_found None w f g = same
 

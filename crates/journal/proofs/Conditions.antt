@@ -1,6 +1,6 @@
 -- The rules that every history meets.
-use Rattle.std.proofs.Common.{◌-◌, ◌≤◌, get_or, sym, ◌∙◌, inl, inr, arith}
-use Rattle.std.proofs.ByRecursion.{All-from_get_or, All-weaker}
+use Rattle.std.proofs.Common.{◌-◌, ◌≤◌, All, get_or, sym, ◌∙◌, inl, inr, arith}
+use Rattle.std.proofs.lemmas.List.Elements.{All-from_get_or, All-weaker}
 use Rattle.std.proofs.lemmas.Bool.{and_parts, both_ways, cases_order}
 use Rattle.journal.specs.Marks.{mark_number}
 use Rattle.journal.specs.Transactions.{is_committed, has_row}
@@ -43,9 +43,9 @@ rules_of h s =
               | inr gt ↦ absurd (both_ways _ (s.ended (n - 1) (m - 1) (omega (arith, hm, hn)) (omega (arith, hm, hn)) (b.1 ∙ sym a.1)) b.0)
             ]
           ];
-      marks = All-from_get_or _ h nobody (λ i _. mark_within (get_or h i nobody).mark);
+      marks = All-from_get_or (λ t. (1 ≤ mark_number t.mark) × (mark_number t.mark ≤ 6)) h nobody (λ i _. mark_within (get_or h i nobody).mark);
       few_reads = s.few;
-      sources = All-weaker _ _ (λ t. All-weaker (Serves h) (Sourced h) (sourced h) t.reads) h s.served;
+      sources = All-weaker (λ t. All (Serves h) t.reads) (λ t. All (Sourced h) t.reads) (λ t. All-weaker (Serves h) (Sourced h) (sourced h) t.reads) h s.served;
     }
 
 pub rules : (h : History) → Reached h → Rules h

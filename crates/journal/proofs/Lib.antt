@@ -1,4 +1,3 @@
-pub mod Parts
 pub mod Tables
 pub mod Reaching
 pub mod Numbers
@@ -7,6 +6,7 @@ pub mod Changes
 pub mod Sources
 pub mod Soundness
 pub mod Rooms
+pub mod Joins
 pub mod Latest
 pub mod Conditions
 pub mod Endings

@@ -3,7 +3,7 @@ use Rattle.std.proofs.Common.{◌≡◌, ℕ, ◌-◌, Bool, true, false, not, e
 use Rattle.std.proofs.lemmas.List.{set-get_or}
 use Rattle.journal.specs.Limits.{kiosk_count, row_count, most_reads}
 use Rattle.journal.specs.Transactions.{Txn, has_row, with_row}
-use Rattle.journal.specs.History.{History, Step, next, refuse_if, then, by_open, nobody, numbered, open_number, changed, reader_after}
+use Rattle.journal.specs.History.{History, Step, next, refuse_if, and_then, by_open, nobody, numbered, open_number, changed, reader_after}
 use Rattle.journal.specs.Rules.{OwnRowsStay}
 use Rattle.journal.specs.declared.refusal.Refusal.{Refusal}
 use Rattle.journal.specs.declared.refusal.Refusal.TheVariants.{NotOwnNumber}
@@ -24,10 +24,10 @@ with_row_same t r e =
     ap (λ (rows : List Bool). record { kiosk = t.kiosk; mark = t.mark; state = t.state; reads = t.reads; rows = rows })
     (ap (set t.rows r) (sym e) ∙ set-get_or t.rows r false)
 
-own_read : (h : History) (n r s : ℕ) → has_row (numbered h n) r ≡ true → next h (then (reader_after most_reads h n (numbered h n) r s) (λ t. Ok (length t.reads, changed h n t))) ≡ h
+own_read : (h : History) (n r s : ℕ) → has_row (numbered h n) r ≡ true → next h (and_then (reader_after most_reads h n (numbered h n) r s) (λ t. Ok (length t.reads, changed h n t))) ≡ h
 own_read h n r s own = rw own (go (not (eqb s n)))
   where
-    go : (b : Bool) → next h (then (refuse_if b NotOwnNumber (Ok (numbered h n))) (λ t. Ok (length t.reads, changed h n t))) ≡ h
+    go : (b : Bool) → next h (and_then (refuse_if b NotOwnNumber (Ok (numbered h n))) (λ t. Ok (length t.reads, changed h n t))) ≡ h
     go true = refl
     go false = changed_same h n
 

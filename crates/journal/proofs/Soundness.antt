@@ -1,12 +1,10 @@
 -- What every call keeps, and so what holds of every history that calls make.
-use Rattle.std.proofs.Common.{◌≡◌, ℕ, ◌-◌, ◌<◌, ◌≤◌, Bool, true, false, eqb, List, [], ◌∷◌, length, get_or, sym, refl, ◌∙◌, inl, inr, arith}
+use Rattle.std.proofs.Common.{◌≡◌, ℕ, ◌-◌, ◌<◌, ◌≤◌, Bool, true, false, eqb, All, List, [], ◌∷◌, length, get_or, sym, refl, ◌∙◌, inl, inr, arith}
 use mathlib.Core.Bool.{Bool-set}
 use mathlib.Core.Logic.{∥∥₁_elim}
-use mathlib.Core.HLevel.{Unit-prop, ×_prop}
 use native.Mathlib.Bridge.{le_prop}
-use Rattle.std.specs.List.{AllByRecursion}
 use Rattle.std.proofs.lemmas.List.{length-set, length_push, get_or_append_left, get_or_push}
-use Rattle.std.proofs.ByRecursion.{All-get_or, All-set, All-push, All-weaker}
+use Rattle.std.proofs.lemmas.List.Elements.{All-nil, All-get_or, All-set, All-push, All-weaker}
 use Rattle.std.proofs.lemmas.Bool.{cases_lt, and_from, eq-eqb, both_ways}
 use Rattle.journal.specs.Limits.{most_reads}
 use Rattle.journal.specs.Transactions.{Txn, is_open, open_at, begun}
@@ -22,8 +20,8 @@ Serves h r = can_serve h r.row r.source ≡ true
 
 -- Few reads, every source can serve, and of two transactions of a kiosk the earlier has ended.
 pub record Sound (h : History) : Type 0 where
-  pub few : AllByRecursion (λ t. length t.reads ≤ most_reads) h
-  pub served : AllByRecursion (λ t. AllByRecursion (Serves h) t.reads) h
+  pub few : All (λ t. length t.reads ≤ most_reads) h
+  pub served : All (λ t. All (Serves h) t.reads) h
   pub ended : (i j : ℕ) → i < j → j < length h → (get_or h i nobody).kiosk ≡ (get_or h j nobody).kiosk → is_open (get_or h i nobody).state ≡ false
 
 edit_few : (h : History) (t t' : Txn) → Edit h t t' → length t.reads ≤ most_reads → length t'.reads ≤ most_reads
@@ -32,7 +30,7 @@ edit_few h t t' (reads r s a b d l) f = omega (arith, length_push t.reads (recor
 edit_few h t t' (writes r l) f = f
 edit_few h t t' (ends s e) f = f
 
-edit_served : (h h' : History) (t t' : Txn) → Edit h t t' → ((r s : ℕ) → can_serve h r s ≡ true → can_serve h' r s ≡ true) → AllByRecursion (Serves h') t.reads → AllByRecursion (Serves h') t'.reads
+edit_served : (h h' : History) (t t' : Txn) → Edit h t t' → ((r s : ℕ) → can_serve h r s ≡ true → can_serve h' r s ≡ true) → All (Serves h') t.reads → All (Serves h') t'.reads
 edit_served h h' t t' stays kept f = f
 edit_served h h' t t' (reads r s a b d l) kept f = All-push (Serves h') t.reads (record { row = r; source = s }) f (kept r s d)
 edit_served h h' t t' (writes r l) kept f = f
@@ -50,9 +48,9 @@ edit_ended h t t' (reads r s a b d l) f = f
 edit_ended h t t' (writes r l) f = f
 edit_ended h t t' (ends s e) f = e
 
-all_served : (h h' : History) → Change h h' → AllByRecursion (λ t. AllByRecursion (Serves h) t.reads) h → AllByRecursion (λ t. AllByRecursion (Serves h') t.reads) h
+all_served : (h h' : History) → Change h h' → All (λ t. All (Serves h) t.reads) h → All (λ t. All (Serves h') t.reads) h
 all_served h h' c a =
-    All-weaker (λ t. AllByRecursion (Serves h) t.reads) (λ t. AllByRecursion (Serves h') t.reads)
+    All-weaker (λ t. All (Serves h) t.reads) (λ t. All (Serves h') t.reads)
     (λ t. All-weaker (Serves h) (Serves h') (λ r. serve_kept h h' c r.row r.source) t.reads) h a
 
 -- What is not open at its own kiosk is not open.
@@ -68,7 +66,7 @@ sound_change h h' same s = s
 sound_change h h' (more k m kl o l) s =
     record {
       few = All-push (λ t. length t.reads ≤ most_reads) h (begun k m) s.few (omega arith);
-      served = All-push (λ t. AllByRecursion (Serves h') t.reads) h (begun k m) (all_served h h' (more k m kl o l) s.served) tt;
+      served = All-push (λ t. All (Serves h') t.reads) h (begun k m) (all_served h h' (more k m kl o l) s.served) (All-nil (Serves h'));
       ended = λ i j lt jl e. elim (cases_lt j (length h)) [
         | inl jh ↦
             let ih : i < length h = omega arith in
@@ -93,12 +91,12 @@ sound_change h h' (edited k n t o d) s =
       few = All-set (λ t. length t.reads ≤ most_reads) h (n - 1) t (edit_few h (numbered h n) t d (All-get_or (λ t. length t.reads ≤ most_reads) h (n - 1) nobody lt s.few)) s.few;
       served =
           let a = all_served h h' (edited k n t o d) s.served in
-          All-set (λ t. AllByRecursion (Serves h') t.reads) h (n - 1) t (edit_served h h' (numbered h n) t d (serve_kept h h' (edited k n t o d)) (All-get_or (λ t. AllByRecursion (Serves h') t.reads) h (n - 1) nobody lt a)) a;
+          All-set (λ t. All (Serves h') t.reads) h (n - 1) t (edit_served h h' (numbered h n) t d (serve_kept h h' (edited k n t o d)) (All-get_or (λ t. All (Serves h') t.reads) h (n - 1) nobody lt a)) a;
       ended = λ i j ij jl e. over i (s.ended i j ij (omega (arith, length-set h (n - 1) t)) (sym (kiosk i) ∙ e ∙ kiosk j));
     }
 
 pub sound_none : Sound []
-sound_none = record { few = tt; served = tt; ended = λ i j ij jl e. absurd (omega arith) }
+sound_none = record { few = All-nil _; served = All-nil _; ended = λ i j ij jl e. absurd (omega arith) }
 
 pub sound_from : (h : History) (cs : List Call) → Sound h → Sound (history_from h cs)
 sound_from h [] s = s
@@ -108,14 +106,13 @@ pub sound : (cs : List Call) → Sound (history cs)
 sound cs = sound_from [] cs sound_none
 
 -- It is one fact, so it holds of a history of which it is only known that some calls make it.
-all_prop : {X : Type 0} (P : X → Type 0) → ((x : X) → IsProp (P x)) → (xs : List X) → IsProp (AllByRecursion P xs)
-all_prop P p [] = Unit-prop
-all_prop P p (x ∷ xs) = ×_prop (p x) (all_prop P p xs)
+all_prop : {X : Type 0} (P : X → Type 0) → ((x : X) → IsProp (P x)) → (xs : List X) → IsProp (All P xs)
+all_prop P p xs a b = λ i k d l. p (get_or xs k d) (a k d l) (b k d l) i
 
 sound_prop : (h : History) → IsProp (Sound h)
 sound_prop h a b = λ i. record {
-  few = all_prop _ (λ t. le_prop) h a.few b.few i;
-  served = all_prop _ (λ t. all_prop (Serves h) (λ r. Bool-set _ _) t.reads) h a.served b.served i;
+  few = all_prop (λ (t : Txn). length t.reads ≤ most_reads) (λ t. le_prop) h a.few b.few i;
+  served = all_prop (λ (t : Txn). All (Serves h) t.reads) (λ t. all_prop (Serves h) (λ r. Bool-set _ _) t.reads) h a.served b.served i;
   ended = λ m n x y u. Bool-set _ _ (a.ended m n x y u) (b.ended m n x y u) i;
 }
 

@@ -1,20 +1,21 @@
--- What the calls of a table make of its record.
-use Rattle.std.proofs.Common.{◌≡◌, ℕ, ◌+◌, ◌<◌, ◌≤◌, cond, eqb, length, get_or, drop, ap, ◌∙◌, arith}
-use Rattle.std.proofs.lemmas.List.{at_drop_more}
-use Rattle.journal.specs.Admission.{latest_from}
-use Rattle.journal.specs.History.{nobody}
-use Rattle.journal.specs.Recorded.{txn, recorded}
+-- A kiosk's latest transaction in a table, by its place.
+use Rattle.std.proofs.Common.{◌≡◌, ℕ, ◌+◌, ◌-◌, ◌<◌, List, length, get_or, map, drop, All, ◌≢◌, Some, sym, ap, ◌∙◌, arith}
+use Rattle.std.proofs.lemmas.List.{length-map, get_or-map, drop-map}
+use Rattle.std.proofs.lemmas.List.Elements.{All-map}
+use Rattle.journal.specs.Admission.{IsLatest}
+use Rattle.journal.specs.History.{nobody, numbered}
+use Rattle.journal.specs.Recorded.{txn}
 use Rattle.journal.specs.declared.transaction.Transaction.{Transaction}
-use Rattle.journal.specs.declared.record.table.Table.{Table}
-use Rattle.journal.proofs.Parts.{length_part, get_or_part}
 
-pub length-recorded : (t : Table) → length (recorded t) ≡ t.begun
-length-recorded t = length_part txn t.begun t.transactions (omega arith)
+at_place : (xs : List Transaction) (p : ℕ) (t : Transaction) → p < length xs → t ≡ get_or xs p t → numbered (map txn xs) (p + 1) ≡ txn t
+at_place xs p t lt e = let z : p + 1 - 1 ≡ p = omega arith in rw z (get_or-map txn xs p t nobody lt ∙ ap txn (sym e))
 
--- One turn of the search for a kiosk's latest transaction.
-pub latest_step : (t : Table) (i k last : ℕ) (d : Transaction) → i < t.begun → latest_from i (drop i (recorded t)) k last ≡ latest_from (i + 1) (drop (i + 1) (recorded t)) k (cond (eqb (txn (get_or t.transactions i d)).kiosk k) (i + 1) last)
-latest_step t i k last d lt =
-    let short : i < length (recorded t) = omega (arith, length-recorded t) in
-    let le : t.begun ≤ length t.transactions = omega arith in
-    at_drop_more (λ l. latest_from i l k last) (recorded t) i nobody short
-    ∙ ap (λ x. latest_from (i + 1) (drop (i + 1) (recorded t)) k (cond (eqb x.kiosk k) (i + 1) last)) (get_or_part txn t.begun t.transactions i d nobody lt le)
+pub latest_is : (xs : List Transaction) (k p : ℕ) (t : Transaction) → p < length xs → t ≡ get_or xs p t → t.kiosk ≡ k → All (λ t. t.kiosk ≢ k) (drop (p + 1) xs) → IsLatest (map txn xs) k (Some (p + 1, t.state))
+latest_is xs k p t lt e at later =
+    let is = at_place xs p t lt e in
+    record {
+      has = (omega arith, omega (arith, length-map xs txn));
+      kiosk = ap (λ t. t.kiosk) is ∙ at;
+      state = ap (λ t. t.state) is;
+      later = rw drop-map (All-map (λ t. t.kiosk ≢ k) txn (drop (p + 1) xs) later);
+    }

@@ -1,5 +1,5 @@
 -- The history: what a journal is, worked out from the arguments of the calls alone.
-use Rattle.std.specs.Prelude.{◌≡◌, ℕ, ◌+◌, ◌-◌, ◌<◌, ◌≤◌, Bool, false, cond, not, ◌&&◌, ◌||◌, List, [], ◌∷◌, ◌++◌, length, is_some, Some, None, Ok, Err, Option, Result, ◌==◌, nat_le, slice_index_or, slice_set}
+use Rattle.std.specs.Prelude.{◌≡◌, ℕ, ◌+◌, ◌-◌, ◌<◌, ◌≤◌, Bool, false, if◌then◌else◌, not, ◌&&◌, ◌||◌, List, [], ◌∷◌, ◌++◌, length, is_some, Some, None, Ok, Err, Option, Result, ◌==◌, nat_le, slice_index_or, slice_set}
 use Rattle.std.specs.Option.{ok_or}
 use Rattle.journal.specs.Limits.{kiosk_count, row_count, most_transactions, most_reads}
 use Rattle.journal.specs.Marks.{mark_of}
@@ -35,12 +35,12 @@ numbered h n = slice_index_or h (n - 1) nobody
 
 -- The transaction that has the number, if one has.
 abbrev pub at_number : History → ℕ → Option Txn
-at_number h n = cond (nat_le 1 n && nat_le n (length h)) (Some (numbered h n)) None
+at_number h n = if nat_le 1 n && nat_le n (length h) then Some (numbered h n) else None
 
 -- The number of the kiosk's open transaction, if it has one; n is the number before the list's first.
 abbrev pub open_from : ℕ → History → ℕ → Option ℕ
 open_from n [] k = None
-open_from n (t ∷ h) k = cond (open_at t k) (Some (n + 1)) (open_from (n + 1) h k)
+open_from n (t ∷ h) k = if open_at t k then Some (n + 1) else open_from (n + 1) h k
 
 abbrev pub open_number : History → ℕ → Option ℕ
 open_number h k = open_from 0 h k
@@ -63,37 +63,37 @@ Step = Result (ℕ × History) Refusal
 
 -- The refusal, where it is due; else the rest.
 abbrev pub refuse_if : {A : Type 0} → Bool → Refusal → Result A Refusal → Result A Refusal
-refuse_if bad why rest = cond bad (Err why) rest
+refuse_if bad why rest = if bad then Err why else rest
 
-abbrev pub then : {A : Type 0} → Result A Refusal → (A → Step) → Step
-then (Ok x) f = f x
-then (Err e) f = Err e
+abbrev pub and_then : {A : Type 0} → Result A Refusal → (A → Step) → Step
+and_then (Ok x) f = f x
+and_then (Err e) f = Err e
 
 abbrev pub begin_at : History → ℕ → ℕ → Step
 begin_at h k m =
     refuse_if (nat_le kiosk_count k) NoSuchKiosk
-    (then (ok_or (mark_of m) NoSuchMark) (λ mark.
+    (and_then (ok_or (mark_of m) NoSuchMark) (λ mark.
     refuse_if (is_some (open_number h k)) AlreadyOpen
     (refuse_if (nat_le most_transactions (length h)) JournalFull
     (Ok (length h + 1, h ++ (begun k mark ∷ []))))))
 
 -- The kiosk's open transaction, by its number, does what f says.
 abbrev pub by_open : History → ℕ → (ℕ → Step) → Step
-by_open h k f = refuse_if (nat_le kiosk_count k) NoSuchKiosk (then (ok_or (open_number h k) NothingOpen) f)
+by_open h k f = refuse_if (nat_le kiosk_count k) NoSuchKiosk (and_then (ok_or (open_number h k) NothingOpen) f)
 
 -- Transaction n, which is t, after it has read a row: a row of its own is tested, and another is recorded while it has fewer than `most`.
 abbrev pub reader_after : ℕ → History → ℕ → Txn → ℕ → ℕ → Result Txn Refusal
 reader_after most h n t r s =
-    cond (has_row t r)
-    (refuse_if (not (s == n)) NotOwnNumber (Ok t))
-    (refuse_if (not (can_serve h r s)) NoSuchSource
+    if has_row t r
+    then refuse_if (not (s == n)) NotOwnNumber (Ok t)
+    else refuse_if (not (can_serve h r s)) NoSuchSource
     (refuse_if (nat_le most (length t.reads)) TooManyReads
-    (Ok (with_read r s t))))
+    (Ok (with_read r s t)))
 
 abbrev pub read_at : ℕ → History → ℕ → ℕ → ℕ → Step
 read_at most h k r s =
     by_open h k (λ n. refuse_if (nat_le row_count r) NoSuchRow
-    (then (reader_after most h n (numbered h n) r s) (λ t. Ok (length t.reads, changed h n t))))
+    (and_then (reader_after most h n (numbered h n) r s) (λ t. Ok (length t.reads, changed h n t))))
 
 abbrev pub write_at : History → ℕ → ℕ → Step
 write_at h k r =

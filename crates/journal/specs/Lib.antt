@@ -1,4 +1,6 @@
 pub mod Limits
+pub mod NumberSet
+pub mod Few
 pub mod Refusals
 pub mod Marks
 pub mod Transactions

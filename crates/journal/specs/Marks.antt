@@ -1,5 +1,5 @@
 -- Marks and their numbers.
-use Rattle.std.specs.Prelude.{ℕ, cond, Some, None, Option, ◌==◌}
+use Rattle.std.specs.Prelude.{ℕ, if◌then◌else◌, Some, None, Option, ◌==◌}
 use Rattle.journal.specs.declared.mark.Mark.{Mark}
 use Rattle.journal.specs.declared.mark.Mark.TheVariants.{ReadCommitted, ReadAtomic, Causal, Prefix, Snapshot, Serializable}
 
@@ -14,9 +14,9 @@ mark_number Serializable = 6
 -- The mark that has the number, where there is one.
 abbrev pub mark_of : ℕ → Option Mark
 mark_of n =
-    cond (n == 1) (Some ReadCommitted)
-    (cond (n == 2) (Some ReadAtomic)
-    (cond (n == 3) (Some Causal)
-    (cond (n == 4) (Some Prefix)
-    (cond (n == 5) (Some Snapshot)
-    (cond (n == 6) (Some Serializable) None)))))
+    if n == 1 then Some ReadCommitted
+    else (if n == 2 then Some ReadAtomic
+    else (if n == 3 then Some Causal
+    else (if n == 4 then Some Prefix
+    else (if n == 5 then Some Snapshot
+    else (if n == 6 then Some Serializable else None)))))

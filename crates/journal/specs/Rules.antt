@@ -1,6 +1,5 @@
 -- What holds of every history that calls can make.
-use Rattle.std.specs.Prelude.{◌≡◌, ℕ, ◌≤◌, true, false, ◌⊎◌, List, ◌++◌, length, Some}
-use Rattle.std.specs.List.{AllByRecursion}
+use Rattle.std.specs.Prelude.{◌≡◌, ℕ, ◌≤◌, true, false, All, ◌⊎◌, List, ◌++◌, length, Some}
 use Rattle.journal.specs.Limits.{most_reads}
 use Rattle.journal.specs.Marks.{mark_number}
 use Rattle.journal.specs.Transactions.{is_open, is_committed, open_at, has_row}
@@ -15,9 +14,9 @@ Sourced h r = (r.source ≡ 0) ⊎ (HasNumber h r.source × (is_committed (numbe
 -- each source is the opening state or a committed transaction that wrote the row.
 pub record Rules (h : History) : Type 0 where
   pub one_open : (k m n : ℕ) → HasNumber h m → HasNumber h n → open_at (numbered h m) k ≡ true → open_at (numbered h n) k ≡ true → m ≡ n
-  pub marks : AllByRecursion (λ t. (1 ≤ mark_number t.mark) × (mark_number t.mark ≤ 6)) h
-  pub few_reads : AllByRecursion (λ t. length t.reads ≤ most_reads) h
-  pub sources : AllByRecursion (λ t. AllByRecursion (Sourced h) t.reads) h
+  pub marks : All (λ t. (1 ≤ mark_number t.mark) × (mark_number t.mark ≤ 6)) h
+  pub few_reads : All (λ t. length t.reads ≤ most_reads) h
+  pub sources : All (λ t. All (Sourced h) t.reads) h
 
 -- A read of a row that its transaction wrote changes nothing, nor does a repeated write.
 abbrev pub OwnRowsStay : Type 0

@@ -5,7 +5,7 @@ use crate::refusal::Refusal;
 use crate::transaction::State;
 
 /// What a kiosk asks for.
-#[derive(Clone, Copy)]
+#[derive(Clone, Copy, PartialEq, Eq, Debug)]
 pub(crate) enum Event {
     Begin,
     Read,
@@ -15,21 +15,22 @@ pub(crate) enum Event {
 }
 
 impl Event {
-    /// The transaction that the event concerns, where the kiosk's latest transaction is in the given state:
-    /// the next one for a begin, the latest for anything else.
-    pub(crate) fn admit(self, state: Option<State>, latest: u8, next: u8) -> Result<u8, Refusal>
-        ensures { result ≡ admits state self latest next }
+    /// The number of the transaction that the event concerns, from the number and the state of the kiosk's latest
+    /// transaction, if it has one: the next number for a begin, the latest for anything else.
+    pub(crate) fn admit(self, latest: Option<(u8, State)>, next: u8) -> Result<u8, Refusal>
+        ensures { result ≡ admits latest self next }
     {
-        match (state, self) {
-            (Some(State::Open), Event::Begin) => Err(Refusal::AlreadyOpen),
-            (Some(State::Open), Event::Read | Event::Write | Event::Commit | Event::Abort) => Ok(
-                latest,
-            ),
-            (None | Some(State::Committed | State::Aborted), Event::Begin) => Ok(next),
+        match (latest, self) {
+            (Some((_, State::Open)), Event::Begin) => Err(Refusal::AlreadyOpen),
             (
-                None | Some(State::Committed | State::Aborted),
+                Some((number, State::Open)),
                 Event::Read | Event::Write | Event::Commit | Event::Abort,
-            ) => { Err(Refusal::NothingOpen) }
+            ) => Ok(number),
+            (None | Some((_, State::Committed | State::Aborted)), Event::Begin) => Ok(next),
+            (
+                None | Some((_, State::Committed | State::Aborted)),
+                Event::Read | Event::Write | Event::Commit | Event::Abort,
+            ) => Err(Refusal::NothingOpen),
         }
     }
 }

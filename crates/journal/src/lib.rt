@@ -3,8 +3,10 @@
 #![tactic(auto)]
 
 mod event;
+mod few;
 pub mod limits;
 pub mod mark;
+pub mod number_set;
 pub mod record;
 pub mod refusal;
 #[cfg(test)]

@@ -1,4 +1,5 @@
-//! The limits of a journal.
+//! The limits of a journal. Whatever is counted or numbered within them fits a byte: an `as u8` of it loses
+//! nothing, where `try_from` would add a failure that cannot come.
 
 /// How many kiosks there are, numbered from 0.
 pub const KIOSKS: u8 = 8;

@@ -32,11 +32,11 @@ pub enum Refusal {
     NoSuchPlace = 15,
 }
 
-impl Refusal {
-    /// The number by which the refusal is published.
-    pub fn number(self) -> u8
-        ensures { result ≡ refusal_number self }
-    {
-        self as u8
+/// The number by which the refusal is published.
+impl From<Refusal> for u8 {
+    ghost from_gives = { λ refusal number. number ≡ refusal_number refusal };
+
+    fn from(refusal: Refusal) -> u8 {
+        refusal as u8
     }
 }

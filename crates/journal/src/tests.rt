@@ -83,6 +83,6 @@ fn the_first_refusal_due_is_given(rt: HostRuntime) {
     assert_eq!(rt; journal.begin(0, 1), Ok(1));
     assert_eq!(rt; journal.begin(0, 7), Err(Refusal::NoSuchMark));
     assert_eq!(rt; journal.read(0, 64, 9), Err(Refusal::NoSuchRow));
-    assert_eq!(rt; Refusal::TooManyReads.number(), 9);
-    assert_eq!(rt; Mark::numbered(5), Some(Mark::Snapshot));
+    assert_eq!(rt; u8::from(Refusal::TooManyReads), 9);
+    assert_eq!(rt; Mark::try_from(5), Ok(Mark::Snapshot));
 }

@@ -1,29 +1,40 @@
 -- One turn of the backward pass that gathers a causal past.
-use Rattle.std.proofs.Common.{◌≡◌, ℕ, suc, ◌-◌, ◌<◌, true, false, cond, ◌||◌, List, [], ◌∷◌, length, drop, sym, refl, ap, ◌∙◌, arith, length-drop, drop-cons}
-use mathlib.Core.Bool.{or-false}
-use Rattle.std.proofs.lemmas.List.{drop_all}
-use Rattle.std.proofs.lemmas.Bool.{and_right, or_from, le-ltb}
-use Rattle.journal.specs.History.{History}
-use Rattle.levels.specs.Runs.{member, last}
+use Rattle.std.proofs.Common.{◌≡◌, ℕ, ◌<◌, ◌≤◌, true, false, cond, ◌||◌, List, [], ◌∷◌, ◌++◌, length, refl, sym, ap, ◌∙◌, append_assoc, length-append, arith}
+use Rattle.std.proofs.Math.ListN.{get_or-append}
+use Rattle.std.proofs.Math.Seq.{get_or-append_seam}
+use Rattle.std.specs.List.{push}
+use Rattle.journal.specs.Limits.{most_transactions}
+use Rattle.journal.specs.History.{History, Reached}
 use Rattle.levels.specs.Rule.{linked, past}
+use Rattle.levels.specs.Runs.{member, Closed}
 use Rattle.levels.specs.Tests.{direct}
-use Rattle.levels.specs.Causality.{past_cons}
+use Rattle.levels.proofs.Members.{member_fits}
 
-past_at : (h : History) (run : List ℕ) (j : ℕ) → suc j < length run → past h (drop j run) ≡ cond (linked h (member run j) (past h (drop (suc j) run))) (member run j ∷ past h (drop (suc j) run)) (past h (drop (suc j) run))
-past_at h run j l = ap (past h) (drop-cons run j 0 (omega arith)) ∙ past_cons h (member run j) (drop (suc j) run) (omega (arith, length-drop (suc j) run))
+-- What is left shrinks by its last member, and that one goes before what has been gone through.
+pub turned : (left rest gone all : List ℕ) (x : ℕ) → left ≡ push rest x → left ++ gone ≡ all → rest ++ x ∷ gone ≡ all
+turned left rest gone all x e a = sym (append_assoc rest (x ∷ []) gone) ∙ ap (λ xs. xs ++ gone) (sym e) ∙ a
 
--- It starts with the direct dependencies of the last member.
-pub pass_starts : (h : History) (run : List ℕ) (n : ℕ) → linked h n (past h (drop (length run - 1) run)) ≡ direct h n (last run)
-pass_starts h [] n = sym (or_from _ _ (and_right _ _ (le-ltb n 0 (omega arith))) refl)
-pass_starts h (x ∷ xs) n =
-    let run : List ℕ = x ∷ xs in
-    let e : drop (length run - 1) run ≡ last run ∷ [] = drop-cons run (length run - 1) 0 (omega arith) ∙ ap (λ ys. last run ∷ ys) (drop_all (suc (length run - 1)) run (omega arith)) in
-    ap (λ ys. linked h n (past h ys)) e ∙ or-false (direct h n (last run))
+-- Where nothing is left, all has been gone through.
+pub all_gone : (left gone all : List ℕ) → length left ≡ 0 → left ++ gone ≡ all → gone ≡ all
+all_gone [] gone all e a = a
+all_gone (x ∷ left) gone all e a = absurd (omega arith)
 
--- A member that is among those gathered adds its own.
-pub pass_adds : (h : History) (run : List ℕ) (j n : ℕ) → suc j < length run → linked h (member run j) (past h (drop (suc j) run)) ≡ true → linked h n (past h (drop j run)) ≡ (direct h n (member run j) || linked h n (past h (drop (suc j) run)))
-pass_adds h run j n l e = ap (linked h n) (past_at h run j l ∙ ap (λ b. cond b (member run j ∷ past h (drop (suc j) run)) (past h (drop (suc j) run))) e)
+-- A member that is gone through is one of a closed run.
+pub passed_fits : (h : History) → Reached h → (rest gone all : List ℕ) (x t : ℕ) → rest ++ x ∷ gone ≡ all → Closed h (all ++ t ∷ []) → x ≤ most_transactions
+passed_fits h r rest gone all x t e c =
+    let l : length rest < length all = omega (arith, ap length e, length-append rest (x ∷ gone)) in
+    let here : member (all ++ t ∷ []) (length rest) ≡ x = get_or-append all (t ∷ []) 0 (length rest) l ∙ ap (λ xs. member xs (length rest)) (sym e) ∙ get_or-append_seam rest x gone 0 in
+    rw here at (member_fits h r (all ++ t ∷ []) c (length rest) (omega (arith, length-append all (t ∷ []))))
 
--- Any other adds nothing.
-pub pass_skips : (h : History) (run : List ℕ) (j n : ℕ) → suc j < length run → linked h (member run j) (past h (drop (suc j) run)) ≡ false → linked h n (past h (drop j run)) ≡ linked h n (past h (drop (suc j) run))
-pass_skips h run j n l e = ap (linked h n) (past_at h run j l ∙ ap (λ b. cond b (member run j ∷ past h (drop (suc j) run)) (past h (drop (suc j) run))) e)
+module _ (h : History) (x : ℕ) where
+  past-cons : (xs : List ℕ) (t : ℕ) → past h (x ∷ xs ++ t ∷ []) ≡ cond (linked h x (past h (xs ++ t ∷ []))) (x ∷ past h (xs ++ t ∷ [])) (past h (xs ++ t ∷ []))
+  past-cons [] t = refl
+  past-cons (y ∷ xs) t = refl
+
+  -- A member that is among those gathered adds its own.
+  pub pass_adds : (xs : List ℕ) (t n : ℕ) → linked h x (past h (xs ++ t ∷ [])) ≡ true → linked h n (past h (x ∷ xs ++ t ∷ [])) ≡ (direct h n x || linked h n (past h (xs ++ t ∷ [])))
+  pass_adds xs t n e = ap (linked h n) (past-cons xs t ∙ ap (λ b. cond b (x ∷ past h (xs ++ t ∷ [])) (past h (xs ++ t ∷ []))) e)
+
+  -- Any other adds nothing.
+  pub pass_skips : (xs : List ℕ) (t n : ℕ) → linked h x (past h (xs ++ t ∷ [])) ≡ false → linked h n (past h (x ∷ xs ++ t ∷ [])) ≡ linked h n (past h (xs ++ t ∷ []))
+  pass_skips xs t n e = ap (linked h n) (past-cons xs t ∙ ap (λ b. cond b (x ∷ past h (xs ++ t ∷ [])) (past h (xs ++ t ∷ []))) e)

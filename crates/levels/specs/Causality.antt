@@ -1,5 +1,5 @@
 -- A backward pass finds the chains of direct dependencies.
-use Rattle.std.specs.Prelude.{◌≡◌, ℕ, zero, suc, ◌+◌, ◌-◌, ◌<◌, Bool, true, false, cond, ◌⊎◌, List, [], ◌∷◌, length, refl}
+use Rattle.std.specs.Prelude.{◌≡◌, ℕ, zero, suc, ◌+◌, ◌-◌, ◌<◌, Bool, true, false, cond, if◌then◌else◌, ◌⊎◌, List, [], ◌∷◌, length, refl}
 use Rattle.std.proofs.Common.{sym, ap, ◌∙◌, subst, inl, inr, arith, add-zero, zero-add}
 use Rattle.std.proofs.lemmas.Bool.{or_cases, or_left, or_right, both_ways}
 use Rattle.journal.specs.History.{History}
@@ -12,7 +12,8 @@ use Rattle.levels.specs.Visibility.{Tells}
 use Rattle.levels.specs.Dependent.{direct_decides}
 use Rattle.levels.specs.Closedness.{once_same, direct_before}
 
-pub past_cons : (h : History) (u : ℕ) (xs : List ℕ) → 0 < length xs → past h (u ∷ xs) ≡ cond (linked h u (past h xs)) (u ∷ past h xs) (past h xs)
+-- One more in front joins the past where it leads to it.
+pub past_cons : (h : History) (u : ℕ) (xs : List ℕ) → 0 < length xs → past h (u ∷ xs) ≡ (if linked h u (past h xs) then u ∷ past h xs else past h xs)
 past_cons h u [] l = absurd (omega arith)
 past_cons h u (v ∷ vs) l = refl
 

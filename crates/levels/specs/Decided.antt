@@ -1,8 +1,8 @@
 -- Tests and what they decide.
 use Rattle.std.specs.Prelude.{◌≡◌, ℕ, zero, suc, ◌+◌, ◌<◌, ◌≤◌, Bool, true, false, ◌&&◌, ◌||◌, ◌⊎◌, Decides, nat_le, refl}
 use Rattle.std.proofs.Common.{sym, ap, ◌∙◌, inl, inr, arith, add-one}
-use Rattle.std.proofs.Math.Bool.{and-true, or_assoc, or_comm}
-use Rattle.std.proofs.lemmas.Bool.{and_parts, and_from, and_left, and_right, or_cases, or_from, or_left, or_right, leb-true, le-leb, both_ways, cases_order}
+use Rattle.std.proofs.Math.Bool.{or_assoc, or_comm}
+use Rattle.std.proofs.lemmas.Bool.{and_parts, and_from, or_cases, or_from, or_left, or_right, leb-true, le-leb, both_ways, cases_order}
 use Rattle.std.proofs.lemmas.Bool.Decides.{Decides-at, Decides-or}
 use Rattle.levels.specs.Tests.{all_below, some_below, or_below, implies}
 
@@ -53,37 +53,11 @@ decides_some p P (suc n) each =
       ],
     )
 
-pub all_same : (p q : ℕ → Bool) (n : ℕ) → ((k : ℕ) → k < n → p k ≡ q k) → all_below p n ≡ all_below q n
-all_same p q zero e = refl
-all_same p q (suc n) e = let h = e n (omega arith) in let r = all_same p q n (λ k l. e k (omega arith)) in cc
-
-pub some_same : (p q : ℕ → Bool) (n : ℕ) → ((k : ℕ) → k < n → p k ≡ q k) → some_below p n ≡ some_below q n
-some_same p q zero e = refl
-some_same p q (suc n) e = let h = e n (omega arith) in let r = some_same p q n (λ k l. e k (omega arith)) in cc
-
-pub all_fails : (p : ℕ → Bool) (n k : ℕ) → k < n → p k ≡ false → all_below p n ≡ false
-all_fails p zero k l e = absurd (omega arith)
-all_fails p (suc n) k l e =
-    elim (cases_order k n) [
-      | inl q ↦ and_left (p n) _ (rw q at e)
-      | inr o ↦ elim o [ inl l' ↦ and_right (p n) _ (all_fails p n k l' e) | inr g ↦ absurd (omega arith) ]
-    ]
-
-pub all_more : (p : ℕ → Bool) (k : ℕ) → p k ≡ true → all_below p k ≡ true → all_below p (k + 1) ≡ true
-all_more p k e f = rw add-one (and_from (p k) _ e f)
-
 pub some_holds : (p : ℕ → Bool) (n k : ℕ) → k < n → p k ≡ true → some_below p n ≡ true
 some_holds p n k l e = (decides_some p (λ m. p m ≡ true) n (λ m _. decides_itself (p m))).1 (k, l, e)
 
 pub some_more : (p : ℕ → Bool) (k : ℕ) → p k ≡ false → some_below p k ≡ false → some_below p (k + 1) ≡ false
 some_more p k e f = rw add-one (or_from (p k) _ e f)
-
-pub some_none : (p : ℕ → Bool) (n : ℕ) → ((k : ℕ) → p k ≡ false) → some_below p n ≡ false
-some_none p zero f = refl
-some_none p (suc n) f = or_from (p n) (some_below p n) (f n) (some_none p n f)
-
-pub and_yes : (a b : Bool) → b ≡ true → (a && b) ≡ a
-and_yes a b e = ap (λ x. a && x) e ∙ and-true a
 
 pub or_swap : (a b c : Bool) → (a || (b || c)) ≡ (b || (a || c))
 or_swap a b c = sym (or_assoc a b c) ∙ ap (λ x. x || c) (or_comm a b) ∙ or_assoc b a c

@@ -1,22 +1,17 @@
--- Layers over lawful levels are lawful, and what the snapshot and the standing level decide.
-use Rattle.std.specs.Prelude.{◌≡◌, ℕ, ◌-◌, ◌<◌, Bool, true, false, cond, ◌&&◌, List, [], ◌∷◌, length, Some, None, Decides, Option, refl}
+-- Layers over lawful levels are lawful.
+use Rattle.std.specs.Prelude.{◌≡◌, ℕ, ◌-◌, ◌<◌, Bool, true, false, cond, ◌&&◌, List, [], ◌∷◌, length, Some, None, Option, refl}
 use Rattle.std.proofs.Common.{sym, ap, ◌∙◌, subst, arith}
 use Rattle.std.proofs.lemmas.Bool.{and_parts, and_from, both_ways}
-use Rattle.std.proofs.lemmas.Bool.Decides.{Decides-and}
 use Rattle.journal.specs.declared.mark.Mark.{Mark}
 use Rattle.journal.specs.declared.mark.Mark.TheVariants as mark
 use Rattle.journal.specs.History.{History}
 use Rattle.journal.specs.Dependencies.{mark_at}
 use Rattle.levels.specs.Runs.{last, Closed, AllAlike}
 use Rattle.levels.specs.Level.{Meaning, Lawful}
-use Rattle.levels.specs.Axioms.{ReadCommitted, ReadAtomic, Causal, Prefix, Conflict, Serializable, Snapshot, Axiom, Standing}
-use Rattle.levels.specs.Rule.{rule, read_committed, read_atomic, causal, prefix, conflict, serializable}
-use Rattle.levels.specs.Layers.{both, is_mark, at_mark, of_mark, by, by_mark, snapshot, standing}
-use Rattle.levels.specs.Causality.{causal_tells}
-use Rattle.levels.specs.Sights.{read_committed_tells, read_atomic_tells, prefix_tells, conflict_tells, serializable_tells}
-use Rattle.levels.specs.Laws.{rule_decides, last_same}
+use Rattle.levels.specs.Layers.{both, never, is_mark, at_mark, of_mark, by, by_mark}
+use Rattle.levels.specs.Laws.{last_same}
 
-pub never_lawful : Lawful (λ _ _. false)
+pub never_lawful : Lawful never
 never_lawful =
     record {
       closed = λ h run r e. absurd (both_ways false refl e);
@@ -60,7 +55,8 @@ at_mark_lawful m a b la lb =
           (chosen_alike (is_mark (mark_at h (last run)) m) (a h run) (b h run) (a h part) (b h part) (λ x y. x ≡ true → y ≡ true) (la.thinned h run part r c d th) (lb.thinned h run part r c d th));
     }
 
-pub marks_nest : (one two three four five six : Meaning) (h : History) (run : List ℕ) → at_mark mark.ReadCommitted one (at_mark mark.ReadAtomic two (at_mark mark.Causal three (at_mark mark.Prefix four (at_mark mark.Snapshot five (at_mark mark.Serializable six (λ _ _. false)))))) h run ≡ by_mark one two three four five six h run
+-- Six levels nested, each at its own mark, with none beyond, answer by mark.
+pub marks_nest : (one two three four five six : Meaning) (h : History) (run : List ℕ) → at_mark mark.ReadCommitted one (at_mark mark.ReadAtomic two (at_mark mark.Causal three (at_mark mark.Prefix four (at_mark mark.Snapshot five (at_mark mark.Serializable six never))))) h run ≡ by_mark one two three four five six h run
 marks_nest one two three four five six h run = nest (mark_at h (last run))
   where
     nest : (o : Option Mark) → cond (is_mark o mark.ReadCommitted) (one h run) (cond (is_mark o mark.ReadAtomic) (two h run) (cond (is_mark o mark.Causal) (three h run) (cond (is_mark o mark.Prefix) (four h run) (cond (is_mark o mark.Snapshot) (five h run) (cond (is_mark o mark.Serializable) (six h run) false))))) ≡ by (of_mark one two three four five six) o h run
@@ -72,27 +68,22 @@ marks_nest one two three four five six h run = nest (mark_at h (last run))
     nest (Some mark.Snapshot) = refl
     nest (Some mark.Serializable) = refl
 
-pub snapshot_decides : (h : History) (run : List ℕ) → Decides (snapshot h run) (Snapshot h run)
-snapshot_decides h run = Decides-and _ _ (rule_decides prefix Prefix prefix_tells h run) (rule_decides conflict Conflict conflict_tells h run)
+-- A meaning that answers as a lawful one does is lawful.
+lawful_like : (a b : Meaning) → ((h : History) (run : List ℕ) → a h run ≡ b h run) → Lawful a → Lawful b
+lawful_like a b same la =
+    record {
+      closed = λ h run r e. la.closed h run r (same h run ∙ e);
+      local = λ h k run rh rk c d alike. sym (same h run) ∙ la.local h k run rh rk c d alike ∙ same k run;
+      thinned = λ h run part r c d th e. sym (same h part) ∙ la.thinned h run part r c d th (same h run ∙ e);
+    }
 
--- The level of each mark among the six.
-abbrev levels : Mark → Meaning
-levels = of_mark (rule read_committed) (rule read_atomic) (rule causal) (rule prefix) snapshot (rule serializable)
-
-axiom_decides : (m : Mark) (h : History) (run : List ℕ) → Decides (levels m h run) (Axiom m h run)
-axiom_decides mark.ReadCommitted = rule_decides read_committed ReadCommitted read_committed_tells
-axiom_decides mark.ReadAtomic = rule_decides read_atomic ReadAtomic read_atomic_tells
-axiom_decides mark.Causal = rule_decides causal Causal causal_tells
-axiom_decides mark.Prefix = rule_decides prefix Prefix prefix_tells
-axiom_decides mark.Snapshot = snapshot_decides
-axiom_decides mark.Serializable = rule_decides serializable Serializable serializable_tells
-
-by_decides : (o : Option Mark) (h : History) (run : List ℕ) → Decides (by levels o h run) ((m : Mark) × (o ≡ Some m) × Axiom m h run)
-by_decides None h run = (λ e. absurd (both_ways false refl e), λ p. let q = p.1 in absurd (grind arith))
-by_decides (Some m) h run = (
-  λ e. (m, refl, (axiom_decides m h run).0 e),
-  λ p. let q = p.1 in let same : p.0 ≡ m = grind arith in (axiom_decides m h run).1 (subst (λ (n : Mark). Axiom n h run) same p.2),
-)
-
-pub standing_decides : (h : History) (run : List ℕ) → Decides (standing h run) (Standing h run)
-standing_decides h run = by_decides (mark_at h (last run)) h run
+-- By mark over any six lawful levels is lawful, since it is the six nested, each at its mark.
+pub by_mark_lawful : (one two three four five six : Meaning) → Lawful one → Lawful two → Lawful three → Lawful four → Lawful five → Lawful six → Lawful (by_mark one two three four five six)
+by_mark_lawful one two three four five six l1 l2 l3 l4 l5 l6 =
+    lawful_like _ _ (marks_nest one two three four five six)
+    (at_mark_lawful mark.ReadCommitted one _ l1
+    (at_mark_lawful mark.ReadAtomic two _ l2
+    (at_mark_lawful mark.Causal three _ l3
+    (at_mark_lawful mark.Prefix four _ l4
+    (at_mark_lawful mark.Snapshot five _ l5
+    (at_mark_lawful mark.Serializable six _ l6 never_lawful))))))

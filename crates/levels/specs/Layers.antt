@@ -1,5 +1,5 @@
 -- What layers over levels answer.
-use Rattle.std.specs.Prelude.{Bool, false, cond, ◌&&◌, Some, None, Option, ◌==◌}
+use Rattle.std.specs.Prelude.{Bool, false, if◌then◌else◌, ◌&&◌, Some, None, Option, ◌==◌}
 use Rattle.journal.specs.declared.mark.Mark.{Mark}
 use Rattle.journal.specs.declared.mark.Mark.TheVariants as mark
 use Rattle.journal.specs.Marks.{mark_number}
@@ -21,7 +21,7 @@ is_mark (Some n) m = mark_number n == mark_number m
 
 -- One level where the last member has the mark, and the other elsewhere.
 abbrev pub at_mark : Mark → Meaning → Meaning → Meaning
-at_mark m a b h run = cond (is_mark (mark_at h (last run)) m) (a h run) (b h run)
+at_mark m a b h run = if is_mark (mark_at h (last run)) m then a h run else b h run
 
 -- The level of a mark among six.
 abbrev pub of_mark : (one two three four five six : Meaning) → Mark → Meaning

@@ -1,5 +1,5 @@
 -- What a level is.
-use Rattle.std.specs.Prelude.{◌≡◌, ℕ, ◌<◌, ◌≤◌, Bool, true, List, length, take, Decides}
+use Rattle.std.specs.Prelude.{◌≡◌, ℕ, ◌<◌, ◌≤◌, Bool, true, List, length, take, ◌↔◌, IsTrue}
 use Rattle.journal.specs.History.{History, Reached}
 use Rattle.levels.specs.Runs.{Closed, Thinned, AllAlike}
 
@@ -22,4 +22,4 @@ Satisfies level h run = (k : ℕ) → 0 < k → k ≤ length run → level h (ta
 
 -- The level says yes exactly where the axiom holds.
 abbrev pub Exact : Meaning → (History → List ℕ → Type 0) → Type 0
-Exact level Ax = (h : History) (run : List ℕ) → Decides (level h run) (Ax h run)
+Exact level Ax = (h : History) (run : List ℕ) → IsTrue (level h run) ↔ Ax h run

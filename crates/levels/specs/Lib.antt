@@ -4,7 +4,7 @@ pub mod Axioms
 pub mod Tests
 pub mod Rule
 pub mod Layers
-pub mod Nests
+pub mod ByMark
 pub mod Numbers
 pub mod Visibility
 pub mod Laws
@@ -15,3 +15,4 @@ pub mod Layering
 pub mod Causality
 pub mod Sights
 pub mod Sharing
+pub mod Isolation

@@ -1,7 +1,8 @@
--- Sets of numbers.
-use Rattle.std.specs.Prelude.{ℕ, Bool, false, slice_index_or}
-use Rattle.levels.specs.declared.numbers.Numbers.{Numbers}
+-- Sets of transaction numbers.
+use Rattle.std.specs.Prelude.{◌≡◌, ℕ, ◌≤◌, Bool, List}
+use Rattle.journal.specs.Limits.{most_transactions}
+use Rattle.journal.specs.NumberSet.{has}
 
--- The set holds the number; none holds a number that no transaction can have.
-abbrev pub has : Numbers → ℕ → Bool
-has s n = slice_index_or s.held n false
+-- Of the numbers that transactions can have, the set holds those that pass the test.
+abbrev pub HoldsExactly : List Bool → (ℕ → Bool) → Type 0
+HoldsExactly s p = (n : ℕ) → n ≤ most_transactions → has s n ≡ p n

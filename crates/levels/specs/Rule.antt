@@ -1,5 +1,5 @@
 -- The rules as tests that compute.
-use Rattle.std.specs.Prelude.{ℕ, ◌-◌, Bool, true, false, cond, not, ◌&&◌, ◌||◌, List, [], ◌∷◌, length, ◌==◌, nat_eq, nat_le, nat_lt}
+use Rattle.std.specs.Prelude.{ℕ, ◌-◌, Bool, true, false, if◌then◌else◌, not, ◌&&◌, ◌||◌, List, [], ◌∷◌, length, ◌==◌, nat_eq, nat_le, nat_lt}
 use Rattle.journal.specs.History.{History}
 use Rattle.journal.specs.Dependencies.{reads_at, row_of, source_of, wrote}
 use Rattle.levels.specs.Runs.{member, last}
@@ -37,10 +37,14 @@ linked h u (v ∷ vs) = direct h u v || linked h u vs
 abbrev pub past : History → List ℕ → List ℕ
 past h [] = []
 past h (u ∷ []) = u ∷ []
-past h (u ∷ (v ∷ vs)) = let after = past h (v ∷ vs) in cond (linked h u after) (u ∷ after) after
+past h (u ∷ (v ∷ vs)) = let after = past h (v ∷ vs) in if linked h u after then u ∷ after else after
 
 abbrev pub causal : Visible
 causal h run i j = linked h (member run j) (past h run)
+
+-- The test passes at the place or at a later one.
+abbrev pub from_place : (ℕ → Bool) → List ℕ → ℕ → Bool
+from_place p xs j = some_below (λ k. nat_le j k && p (member xs k)) (length xs)
 
 -- The test passes at the place or at a later one, before the last.
 abbrev pub up_to : (ℕ → Bool) → List ℕ → ℕ → Bool

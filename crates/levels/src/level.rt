@@ -9,6 +9,7 @@ pub trait Level {
     ghost meaning: { Self → Meaning };
 
     /// The meaning's answer on the journal and any list of numbers.
+    // Two arguments and no pair: whoever asks has them apart, and asks of one journal about many runs.
     fn allows(&self, journal: &Journal, run: &[u8]) -> bool
         ensures { result ≡ meaning self.now (of_journal journal.now) run.now };
 

@@ -1,15 +1,8 @@
-ghost use Rattle.std.specs.Prelude.{◌≡◌, ◌+◌, length};
-ghost use Rattle.journal.specs.Limits.{most_transactions};
-
 use journal::limits::MOST_TRANSACTIONS;
+use journal::number_set::NumberSet;
 
-mod set;
+/// How many numbers there are: 0, and one for each transaction that can begin.
+const COUNT: usize = MOST_TRANSACTIONS + 1;
 
-const PLACES: usize = MOST_TRANSACTIONS + 1;
-
-/// A set of numbers from 0 to the most that transactions can have.
-#[derive(Clone, Copy)]
-pub struct Numbers {
-    held: [bool; PLACES],
-    ghost long: { length held ≡ most_transactions + 1 },
-}
+/// A set of transaction numbers.
+pub type Numbers = NumberSet<COUNT>;

@@ -1,7 +1,5 @@
-use crate::questions::{
-    causal_allows, conflict_allows, prefix_allows, read_atomic_allows, read_committed_allows,
-    serializable_allows, snapshot_allows, standing_allows,
-};
+use crate::isolation::Isolation;
+use crate::level::Level;
 use journal::Journal;
 use std::process::Abort;
 
@@ -34,17 +32,18 @@ fn commits(rt: &impl Abort, journal: &mut Journal, kiosk: u8, mark: u8, steps: &
     assert!(rt; journal.commit(kiosk).is_ok());
 }
 
-/// What is said of the list by read committed, read atomic, causal, prefix, conflict, snapshot,
-/// serializable, and the standing level.
+const LEVELS: [Isolation; 8] = [
+    Isolation::ReadCommitted,
+    Isolation::ReadAtomic,
+    Isolation::Causal,
+    Isolation::Prefix,
+    Isolation::Conflict,
+    Isolation::Snapshot,
+    Isolation::Serializable,
+    Isolation::Standing,
+];
+
+/// What each of the levels says of the list.
 fn answers(journal: &Journal, run: &[u8]) -> [bool; 8] {
-    [
-        read_committed_allows(journal, run),
-        read_atomic_allows(journal, run),
-        causal_allows(journal, run),
-        prefix_allows(journal, run),
-        conflict_allows(journal, run),
-        snapshot_allows(journal, run),
-        serializable_allows(journal, run),
-        standing_allows(journal, run),
-    ]
+    LEVELS.map(|level| level.allows(journal, run))
 }

@@ -1,6 +1,2 @@
-mod Decoded
-mod Texts
-mod Decimals
-mod Turns
 mod Requests
 mod Wholes

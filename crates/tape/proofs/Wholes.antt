@@ -1,94 +1,54 @@
 -- One line after another, along a tape.
-use Rattle.std.proofs.Common.{◌≡◌, ℕ, ◌≤◌, Bool, true, false, cond, ltb, List, [], ◌++◌, length, take, Some, None, Ok, Option, sym, refl, ap, ◌∙◌, subst, append_assoc, append-nil, arith, ltb-false}
+use Rattle.std.proofs.Common.{◌≡◌, ℕ, ◌+◌, ◌≤◌, List, [], ◌++◌, length, take, drop, Some, None, Ok, Option, sym, ap, ◌∙◌, append_assoc, append-nil, rules}
+use Rattle.std.proofs.lemmas.List.{take_at}
 use Rattle.journal.specs.declared.record.Journal.{Journal}
-use Rattle.journal.specs.declared.refusal.Refusal.{Refusal}
-use Rattle.journal.specs.declared.refusal.Refusal.TheVariants.{ShortLine, NoSuchPlace}
 use Rattle.journal.specs.Calls.{of_journal}
 use Rattle.journal.specs.History.{History}
-use Rattle.tape.specs.declared.decoding.Found.{Found}
-use Rattle.tape.specs.declared.decoding.Found.TheVariants.{End, Record, Faulty}
-use Rattle.tape.specs.Limits.{line_room, longest_tape}
-use Rattle.tape.specs.Playing.{Played, refusal_due, reply, next_place, line_of, history_after}
-use Rattle.tape.specs.Records.{found_at}
+use Rattle.tape.specs.Limits.{longest_tape}
+use Rattle.tape.specs.Playing.{Turned, reply, next_place, line_of}
+use Rattle.tape.specs.Records.{Found, found_at}
 use Rattle.tape.specs.Whole.{AllLines, Lines, answers_of, ended, played}
 use Rattle.tape.proofs.Requests.{lines_of_requests}
-use Rattle.tape.proofs.Texts.{front_of_written}
 
--- The lines out were written, and each list of lines from here on makes a whole with them.
-abbrev pub Onto : List ℕ → History → ℕ → List ℕ → Type 0
-Onto tape h place out = (rest : List ℕ) → Lines tape h place rest → Lines tape [] 0 (out ++ rest)
-
-record SomeLine (h : History) (tape : List ℕ) (place n len : ℕ) (f : Found) : Type 0 where
-  more : f ≡ End → ⊥
-  next : n ≡ next_place tape place f
-  long : len ≡ length (line_of h f)
-
-abbrev Reply : Type 0
-Reply = Option (ℕ × ℕ)
-
-reply_parts : {a b c d : ℕ} → ◌≡◌ {A = Reply} (Some (a, b)) (Some (c, d)) → (a ≡ c) × (b ≡ d)
-reply_parts {a} {b} {c} {d} e = let p : ◌≡◌ {A = ℕ × ℕ} (a, b) (c, d) = cc in (ap (λ (x : ℕ × ℕ). x.0) p, ap (λ (x : ℕ × ℕ). x.1) p)
+-- The lines out were written up to the place: each list of lines from there on makes a whole with them.
+pub record Onto (tape : List ℕ) (h : History) (place : ℕ) (out : List ℕ) : Type 0 where
+  pub whole : (rest : List ℕ) → Lines tape h place rest → Lines tape [] 0 (out ++ rest)
 
 -- What an answer of playing says of what stands at the place.
-some_line_at : (h : History) (tape : List ℕ) (place n len : ℕ) (f : Found) → ◌≡◌ {A = Reply} (Some (n, len)) (reply h tape place f) → SomeLine h tape place n len f
-some_line_at h tape place n len End e = absurd (let z : ◌≡◌ {A = ℕ} 0 1 = cc in omega arith)
-some_line_at h tape place n len (Record q s) e =
-    let p = reply_parts e in
-    record { more = λ x. let z : ◌≡◌ {A = ℕ} 0 1 = cc in omega arith; next = p.0; long = p.1 }
-some_line_at h tape place n len (Faulty q) e =
-    let p = reply_parts e in
-    record { more = λ x. let z : ◌≡◌ {A = ℕ} 0 1 = cc in omega arith; next = p.0; long = p.1 }
+some_at : (h : History) (tape : List ℕ) (place n len : ℕ) (f : Found) → ◌≡◌ {A = Option (ℕ × ℕ)} (Some (n, len)) (reply h tape place f) →
+    (f ≡ Ok None → ⊥) × (n ≡ next_place tape place f) × (len ≡ length (line_of h f))
+some_at h tape place n len f e = search rules
 
-none_at : (h : History) (tape : List ℕ) (place : ℕ) (f : Found) → ◌≡◌ {A = Reply} None (reply h tape place f) → f ≡ End
-none_at h tape place End e = refl
-none_at h tape place (Record q s) e = cc
-none_at h tape place (Faulty q) e = cc
+none_at : (h : History) (tape : List ℕ) (place : ℕ) (f : Found) → ◌≡◌ {A = Option (ℕ × ℕ)} None (reply h tape place f) → f ≡ Ok None
+none_at h tape place f e = search rules
 
--- A tape that is played is not too long.
-not_long : (room : ℕ) (tape : List ℕ) (place : ℕ) → refusal_due room tape place ≡ None → length tape ≤ longest_tape
-not_long room tape place e = go (ltb room line_room) (ltb longest_tape (length tape)) (ltb (length tape) place) refl e
-  where
-    go : (a b d : Bool) → ltb longest_tape (length tape) ≡ b → ◌≡◌ {A = Option Refusal} (cond a (Some ShortLine) (cond b (Some NoSuchPlace) (cond d (Some NoSuchPlace) None))) None → length tape ≤ longest_tape
-    go true b d q x = absurd (let z : ◌≡◌ {A = ℕ} 0 1 = cc in omega arith)
-    go false true d q x = absurd (let z : ◌≡◌ {A = ℕ} 0 1 = cc in omega arith)
-    go false false d q x = ltb-false _ _ q
-
-pub onto_none : (tape : List ℕ) (h : History) → h ≡ [] → Onto tape h 0 []
-onto_none tape h e rest l = subst (λ (g : History). Lines tape g 0 rest) e l
-
-pub onto_more : (j j' : Journal) (tape : List ℕ) (place : ℕ) (line line' out out' : List ℕ) (n len : ℕ) (o : Reply) → o ≡ Some (n, len) →
-    Played tape place j line (Ok o) j' line' → out' ≡ out ++ take len line' → Onto tape (of_journal j) place out → Onto tape (of_journal j') n out'
-onto_more j j' tape place line line' out out' n len o i p e k rest l =
+-- One record was played, and its line is the front of the buffer.
+pub onto_more : {tape : List ℕ} {place n len : ℕ} {j j' : Journal} {line line' out : List ℕ} → Turned tape place (found_at tape place) j line (Some (n, len)) j' line' →
+    Onto tape (of_journal j) place out → Onto tape (of_journal j') n (out ++ take len line')
+onto_more {tape} {place} {n} {len} {j} {j'} {line} {line'} {out} t k =
     let h : History = of_journal j in
     let f : Found = found_at tape place in
-    let t = p.1 in
-    let s = some_line_at h tape place n len f (sym i ∙ t.answers) in
-    let text : List ℕ = line_of h f in
-    let a : Lines tape (history_after h f) n rest = subst (λ (g : History). Lines tape g n rest) t.records l in
-    let b : Lines tape (history_after h f) (next_place tape place f) rest = subst (λ (m : ℕ). Lines tape (history_after h f) m rest) s.next a in
-    let d : Lines tape [] 0 (out ++ (text ++ rest)) = k (text ++ rest) (played h place rest s.more b) in
-    let w : take len line' ≡ text = ap (take len) t.writes ∙ front_of_written line text len s.long in
-    let g : out ++ (text ++ rest) ≡ out' ++ rest = sym (append_assoc out text rest) ∙ ap (λ (x : List ℕ). x ++ rest) (sym (e ∙ ap (λ (x : List ℕ). out ++ x) w)) in
-    subst (λ (x : List ℕ). Lines tape [] 0 x) g d
+    let s = some_at h tape place n len f t.answers in
+    let text : take len line' ≡ line_of h f = ap (take len) t.writes ∙ take_at (line_of h f) (drop (0 + length (line_of h f)) line) len (sym s.2) in
+    record { whole = λ rest l. rw (append_assoc, text) (k.whole (line_of h f ++ rest) (played h place rest s.0 (rw (t.records, s.1) at l))) }
 
 -- A tape calls for one list of lines.
 lines_unique : (tape : List ℕ) (h : History) (place : ℕ) (a b : List ℕ) → Lines tape h place a → Lines tape h place b → a ≡ b
-lines_unique tape h place a b (ended h₁ p₁ e) (ended h₂ p₂ f) = refl
+lines_unique tape h place a b (ended h₁ p₁ e) (ended h₂ p₂ f) = cc
 lines_unique tape h place a b (ended h₁ p₁ e) (played h₂ p₂ more ne l) = absurd (ne e)
 lines_unique tape h place a b (played h₁ p₁ more ne l) (ended h₂ p₂ e) = absurd (ne e)
 lines_unique tape h place a b (played h₁ p₁ more ne l) (played h₂ p₂ more' ne' l') =
-    ap (λ (x : List ℕ). line_of h (found_at tape place) ++ x)
-    (lines_unique tape (history_after h (found_at tape place)) (next_place tape place (found_at tape place)) more more' l l')
+    ap (λ (x : List ℕ). line_of h (found_at tape place) ++ x) (lines_unique tape _ _ more more' l l')
 
-pub onto_end : (j j' : Journal) (tape : List ℕ) (place : ℕ) (line line' out : List ℕ) (o : Reply) → o ≡ None →
-    Played tape place j line (Ok o) j' line' → Onto tape (of_journal j) place out → AllLines tape out
-onto_end j j' tape place line line' out o i p k =
+-- The tape's end is reached: the lines so far are all.
+pub onto_end : {tape : List ℕ} {place : ℕ} {j j' : Journal} {line line' out : List ℕ} → Turned tape place (found_at tape place) j line None j' line' →
+    Onto tape (of_journal j) place out → length tape ≤ longest_tape → AllLines tape out
+onto_end {tape} {place} {j} {j'} {line} {line'} {out} t k short =
     let h : History = of_journal j in
-    let d : Lines tape [] 0 (out ++ []) = k [] (ended h place (none_at h tape place (found_at tape place) (sym i ∙ p.1.answers))) in
-    let due : Lines tape [] 0 out = subst (λ (x : List ℕ). Lines tape [] 0 x) (append-nil out) d in
+    let due : Lines tape [] 0 out = rw append-nil at (k.whole [] (ended h place (none_at h tape place (found_at tape place) t.answers))) in
     record {
-      short = not_long (length line) tape place p.0;
+      short = short;
       due = due;
       only = λ others l. lines_unique tape [] 0 others out l due;
-      answers = λ qs e. lines_unique tape [] 0 out (answers_of [] qs) due (subst (λ (x : List ℕ). Lines x [] 0 (answers_of [] qs)) (sym e) (lines_of_requests [] [] qs));
+      answers = λ qs e. lines_unique tape [] 0 out (answers_of [] qs) due (rw e (lines_of_requests [] [] qs));
     }

@@ -3,3 +3,4 @@ pub mod Records
 pub mod Lines
 pub mod Playing
 pub mod Whole
+pub mod Failures

@@ -1,12 +1,12 @@
 -- What stands on a tape.
-use Rattle.std.specs.Prelude.{◌≡◌, ℕ, ◌+◌, ◌<◌, ◌≤◌, cond, ◌⊎◌, List, [], ◌∷◌, ◌++◌, length, drop, Some, None, Option, ◌==◌, nat_le, slice_index}
+use Rattle.std.specs.Prelude.{◌≡◌, ℕ, ◌+◌, ◌<◌, ◌≤◌, if◌then◌else◌, ◌⊎◌, List, [], ◌∷◌, ◌++◌, length, drop, Some, None, Ok, Err, Option, Result, ◌==◌, nat_le, slice_index}
 use Rattle.journal.specs.declared.refusal.Refusal.{Refusal}
 use Rattle.journal.specs.declared.refusal.Refusal.TheVariants.{UnknownKind, CutShort}
 use Rattle.journal.specs.History.{Call, begin, read, write, commit, abort}
 use Rattle.tape.specs.declared.request.Request.{Request}
 use Rattle.tape.specs.declared.request.Request.TheVariants.{Begin, Read, Write, Commit, Abort}
-use Rattle.tape.specs.declared.decoding.Found.{Found}
-use Rattle.tape.specs.declared.decoding.Found.TheVariants.{End, Record, Faulty}
+use Rattle.tape.specs.declared.decoding.Fault.{Fault}
+use Rattle.tape.specs.declared.decoding.Record.{Record}
 
 abbrev pub call_of : Request → Call
 call_of (Begin k m) = begin k m
@@ -37,11 +37,11 @@ bytes_of q = letter_of q ∷ body_of q
 -- How long a body the kind fixes; no other kind is known.
 abbrev pub body_size : ℕ → Option ℕ
 body_size kind =
-    cond (kind == 66) (Some 2)
-    (cond (kind == 82) (Some 3)
-    (cond (kind == 87) (Some 2)
-    (cond (kind == 67) (Some 1)
-    (cond (kind == 65) (Some 1) None))))
+    if kind == 66 then Some 2
+    else (if kind == 82 then Some 3
+    else (if kind == 87 then Some 2
+    else (if kind == 67 then Some 1
+    else (if kind == 65 then Some 1 else None))))
 
 -- A kind that is not known, or a body that the tape's end cuts short.
 abbrev pub Fails : ℕ → List ℕ → Refusal → Type 0
@@ -49,29 +49,35 @@ Fails kind body why =
     ((body_size kind ≡ None) × (why ≡ UnknownKind))
     ⊎ ((n : ℕ) × (body_size kind ≡ Some n) × (length body < n) × (why ≡ CutShort))
 
+-- What stands at a place of a tape: nothing, at its end; a record; or a fault.
+abbrev pub Found : Type 0
+Found = Result (Option Record) Fault
+
 -- What stands at the front of a part of a tape that begins at the place: nothing, where it has ended;
 -- a record, with its length; or a fault, with the place of the kind byte.
 abbrev pub Stands : List ℕ → ℕ → Found → Type 0
-Stands tape place End = tape ≡ []
-Stands tape place (Record q size) = (rest : List ℕ) × (tape ≡ bytes_of q ++ rest) × (size ≡ length (bytes_of q))
-Stands tape place (Faulty f) = (kind : ℕ) × (body : List ℕ) × (tape ≡ kind ∷ body) × Fails kind body f.why × (f.place ≡ place)
+Stands tape place (Ok None) = tape ≡ []
+Stands tape place (Ok (Some r)) = (rest : List ℕ) × (tape ≡ bytes_of r.request ++ rest) × (r.size ≡ length (bytes_of r.request))
+Stands tape place (Err f) = (kind : ℕ) × (body : List ℕ) × (tape ≡ kind ∷ body) × Fails kind body f.why × (f.place ≡ place)
 
 -- A body of n bytes, if there are as many.
 abbrev pub with_body : ℕ → List ℕ → ℕ → Request → Found
-with_body n body place request = cond (nat_le n (length body)) (Record request (n + 1)) (Faulty (record { why = CutShort; place = place }))
+with_body n body place request =
+    if nat_le n (length body) then Ok (Some (record { request = request; size = n + 1 }))
+    else Err (record { why = CutShort; place = place })
 
 abbrev pub of_kind : ℕ → List ℕ → ℕ → Found
 of_kind kind body place =
-    cond (kind == 66) (with_body 2 body place (Begin (slice_index body 0) (slice_index body 1)))
-    (cond (kind == 82) (with_body 3 body place (Read (slice_index body 0) (slice_index body 1) (slice_index body 2)))
-    (cond (kind == 87) (with_body 2 body place (Write (slice_index body 0) (slice_index body 1)))
-    (cond (kind == 67) (with_body 1 body place (Commit (slice_index body 0)))
-    (cond (kind == 65) (with_body 1 body place (Abort (slice_index body 0)))
-    (Faulty (record { why = UnknownKind; place = place }))))))
+    if kind == 66 then with_body 2 body place (Begin (slice_index body 0) (slice_index body 1))
+    else (if kind == 82 then with_body 3 body place (Read (slice_index body 0) (slice_index body 1) (slice_index body 2))
+    else (if kind == 87 then with_body 2 body place (Write (slice_index body 0) (slice_index body 1))
+    else (if kind == 67 then with_body 1 body place (Commit (slice_index body 0))
+    else (if kind == 65 then with_body 1 body place (Abort (slice_index body 0))
+    else Err (record { why = UnknownKind; place = place })))))
 
 -- What stands there, worked out.
 abbrev pub decoded : List ℕ → ℕ → Found
-decoded tape place = cond (length tape == 0) End (of_kind (slice_index tape 0) (drop 1 tape) place)
+decoded tape place = if length tape == 0 then Ok None else of_kind (slice_index tape 0) (drop 1 tape) place
 
 -- What stands at a place of the tape.
 abbrev pub found_at : List ℕ → ℕ → Found
@@ -79,10 +85,10 @@ found_at tape place = decoded (drop place tape) place
 
 -- Every record is read back from its bytes, whatever follows them.
 abbrev pub ReadsBack : Type 0
-ReadsBack = (q : Request) (rest : List ℕ) (place : ℕ) → decoded (bytes_of q ++ rest) place ≡ Record q (length (bytes_of q))
+ReadsBack = (q : Request) (rest : List ℕ) (place : ℕ) → decoded (bytes_of q ++ rest) place ≡ Ok (Some (record { request = q; size = length (bytes_of q) }))
 
 -- A record is not empty and lies within the tape; without one the tape is at its end, or there is a fault.
 abbrev pub Fitting : List ℕ → ℕ → Found → Type 0
-Fitting tape place End = length tape ≤ place
-Fitting tape place (Record request size) = (0 < size) × (place + size ≤ length tape)
-Fitting tape place (Faulty f) = place < length tape
+Fitting tape place (Ok None) = length tape ≤ place
+Fitting tape place (Ok (Some r)) = (0 < r.size) × (place + r.size ≤ length tape)
+Fitting tape place (Err f) = place < length tape

@@ -1,8 +1,7 @@
 -- What a whole tape prints.
-use Rattle.std.specs.Prelude.{◌≡◌, ℕ, ◌<◌, ◌≤◌, List, [], ◌∷◌, ◌++◌, length, ◌≢◌}
+use Rattle.std.specs.Prelude.{◌≡◌, ℕ, ◌<◌, ◌≤◌, List, [], ◌∷◌, ◌++◌, length, None, Ok, ◌≢◌}
 use Rattle.journal.specs.declared.refusal.Refusal.TheVariants.{NoSuchPlace}
 use Rattle.journal.specs.History.{History, answer, after}
-use Rattle.tape.specs.declared.decoding.Found.TheVariants.{End}
 use Rattle.tape.specs.declared.failure.Failure.{Failure}
 use Rattle.tape.specs.declared.failure.Failure.TheVariants.{NoMemory, Refused}
 use Rattle.tape.specs.Limits.{longest_tape}
@@ -14,8 +13,8 @@ use Rattle.tape.specs.declared.request.Request.{Request}
 -- The lines that a tape calls for from a place on, where the records before it made the history:
 -- at the tape's end none; else the line of what stands there, and then those from the next place on.
 pub data Lines (tape : List ℕ) : History → ℕ → List ℕ → Type 0 where
-  ended : (h : History) (place : ℕ) → found_at tape place ≡ End → Lines tape h place []
-  played : (h : History) (place : ℕ) (more : List ℕ) → (found_at tape place ≢ End) →
+  ended : (h : History) (place : ℕ) → found_at tape place ≡ Ok None → Lines tape h place []
+  played : (h : History) (place : ℕ) (more : List ℕ) → (found_at tape place ≢ Ok None) →
       Lines tape (history_after h (found_at tape place)) (next_place tape place (found_at tape place)) more →
       Lines tape h place (line_of h (found_at tape place) ++ more)
 

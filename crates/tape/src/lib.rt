@@ -12,7 +12,7 @@ pub mod request;
 mod tests;
 pub mod whole;
 
-pub use decoding::{Fault, Found, decode};
+pub use decoding::{Fault, Record, decode};
 pub use failure::Failure;
 pub use limits::{LINE_ROOM, LONGEST_TAPE};
 pub use playing::play;

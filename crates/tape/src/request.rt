@@ -16,6 +16,7 @@ pub enum Request {
 
 impl Request {
     /// The letter of its kind, which its record and its line begin with.
+    // A byte, as the format has it, and no `char`.
     pub fn letter(self) -> u8
         ensures { result ≡ letter_of self }
     {

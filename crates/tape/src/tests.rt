@@ -1,4 +1,5 @@
-use crate::decoding::{Fault, Found, decode};
+use crate::decoding::{Fault, Record, decode};
+use crate::failure::Failure;
 use crate::playing::play;
 use crate::request::Request;
 use crate::whole::play_all;
@@ -46,16 +47,19 @@ fn bodies_cut_short(rt: HostRuntime) {
         why: Refusal::CutShort,
         place: 1,
     };
-    assert_eq!(rt; decode(b"\x00B\x00", 1), Found::Faulty(fault));
-    assert_eq!(rt; decode(b"\x00R\x00\x00", 1), Found::Faulty(fault));
-    assert_eq!(rt; decode(b"\x00W\x00", 1), Found::Faulty(fault));
-    assert_eq!(rt; decode(b"\x00C", 1), Found::Faulty(fault));
-    assert_eq!(rt; decode(b"\x00A", 1), Found::Faulty(fault));
-    assert_eq!(rt; decode(b"\x00A", 2), Found::End);
-    assert_eq!(rt; decode(b"\x00A", 9), Found::End);
+    assert_eq!(rt; decode(b"\x00B\x00", 1), Err(fault));
+    assert_eq!(rt; decode(b"\x00R\x00\x00", 1), Err(fault));
+    assert_eq!(rt; decode(b"\x00W\x00", 1), Err(fault));
+    assert_eq!(rt; decode(b"\x00C", 1), Err(fault));
+    assert_eq!(rt; decode(b"\x00A", 1), Err(fault));
+    assert_eq!(rt; decode(b"\x00A", 2), Ok(None));
+    assert_eq!(rt; decode(b"\x00A", 9), Ok(None));
     assert_eq!(rt;
         decode(b"\x00A\x09", 1),
-        Found::Record(Request::Abort { kiosk: 9 }, 2)
+        Ok(Some(Record {
+            request: Request::Abort { kiosk: 9 },
+            size: 2
+        }))
     );
 }
 
@@ -68,5 +72,20 @@ fn whole_tapes(rt: HostRuntime) -> Result<(), Fail> {
         b"B 1\nR 1\nW 1\nC 1\nB 2\nR 1\nW 1\nC 2\n".as_slice()
     );
     assert!(rt; play_all(rt.alloc(), b"")?.is_empty());
+    Ok(())
+}
+
+#[test]
+fn texts_of_failures(rt: HostRuntime) -> Result<(), Fail> {
+    assert_eq!(rt;
+        Failure::NoMemory.to_string(rt.alloc())?.as_str(),
+        "there is not enough memory for the lines of the tape"
+    );
+    assert_eq!(rt;
+        Failure::Refused(Refusal::NoSuchPlace)
+            .to_string(rt.alloc())?
+            .as_str(),
+        "the tape is longer than 65536 bytes"
+    );
     Ok(())
 }

@@ -15,6 +15,7 @@ pub fn play_all(heap: Global, tape: &[u8]) -> Result<Vec<u8>, Failure>
     let mut lines = Vec::new(heap);
     let mut line = [0; LINE_ROOM];
     let mut place = 0;
+    // `play` hands back the next place, and writes to the buffer that it is lent: no iterator would be plainer.
     while let Some((next, length)) = play(&mut journal, tape, place, &mut line)? {
         lines.extend_from_slice(&line[..length])?;
         place = next;

@@ -1,6 +1,6 @@
 ghost use Rattle.journal.specs.Admission.{Within, acting, admitted, is_begin};
 ghost use Rattle.journal.specs.Calls.{ComesTo, Done, of_journal};
-ghost use Rattle.journal.specs.History.{HasNumber, History, Reached, abort, begin, commit, end_at, numbered, read, reader_after, write};
+ghost use Rattle.journal.specs.History.{History, Reached, abort, begin, commit, end_at, read, reader_after, write};
 ghost use Rattle.journal.specs.Limits.{most_reads};
 ghost use Rattle.journal.specs.Recorded.{txn};
 ghost use Rattle.journal.specs.Rules.{EndedStays, OwnRowsStay, Rules};
@@ -14,7 +14,7 @@ use crate::mark::Mark;
 use crate::record::Journal;
 use crate::record::table::Table;
 use crate::refusal::Refusal;
-use crate::transaction::{State, Transaction};
+use crate::transaction::{OuterRead, State, Transaction};
 
 impl Journal {
     /// A journal in which nothing has begun. Whatever calls are made of it, their history meets
@@ -35,22 +35,20 @@ impl Journal {
     fn admit(&self, kiosk: u8, event: Event) -> Result<u8, Refusal>
         ensures { result ≡ admitted (of_journal self.now) kiosk event }
     {
-        let latest = self.table.latest_of(kiosk);
-        event.admit(self.table.state_of(latest), latest, self.table.len() + 1)
+        event.admit(self.table.latest_of(kiosk), self.table.len() + 1)
     }
 
     /// Begins a transaction at the kiosk, and answers its number.
+    // The mark comes as a number, as a tape has it: by the rules a begin refuses one that is no mark, after the kiosk.
     pub fn begin(&mut self, kiosk: u8, mark: u8) -> Result<u8, Refusal>
         ensures { Done (begin kiosk mark) self.old result self.new }
     {
         if kiosk >= KIOSKS {
             return Err(Refusal::NoSuchKiosk);
         }
-        let Some(mark) = Mark::numbered(mark) else {
-            return Err(Refusal::NoSuchMark);
-        };
+        let mark = Mark::try_from(mark)?;
         let number = self.admit(kiosk, Event::Begin)?;
-        if number as usize > MOST_TRANSACTIONS {
+        if usize::from(number) > MOST_TRANSACTIONS {
             return Err(Refusal::JournalFull);
         }
         self.table.push(Transaction::begun(kiosk, mark));
@@ -68,25 +66,28 @@ impl Journal {
         self.admit(kiosk, event)
     }
 
-    /// The transaction with the number, after it has read the row from the source.
-    fn reader_after(&self, number: u8, row: u8, source: u8) -> Result<Transaction, Refusal>
-        requires { HasNumber (of_journal self.now) number }
-        ensures { result_map_both txn (λ e. e) result ≡ reader_after most_reads (of_journal self.now) number (numbered (of_journal self.now) number) row source }
+    /// The reader, which has the number, after the read.
+    fn reader_after(
+        &self,
+        number: u8,
+        reader: Transaction,
+        read: OuterRead,
+    ) -> Result<Transaction, Refusal>
+        ensures { result_map_both txn (λ e. e) result ≡ reader_after most_reads (of_journal self.now) number (txn reader) read.row read.source }
     {
-        let reader = self.table.at(number);
-        if reader.wrote(row) {
-            if source != number {
+        if reader.wrote(read.row) {
+            if read.source != number {
                 return Err(Refusal::NotOwnNumber);
             }
             return Ok(reader);
         }
-        if !self.table.can_serve(row, source) {
+        if !self.table.can_serve(read) {
             return Err(Refusal::NoSuchSource);
         }
-        if reader.reads_made() as usize >= MOST_READS {
+        if usize::from(reader.reads_made()) >= MOST_READS {
             return Err(Refusal::TooManyReads);
         }
-        Ok(reader.with_read(row, source))
+        Ok(reader.with_read(read))
     }
 
     /// The kiosk's open transaction reads the row from the source; the answer is how many outer reads it then has.
@@ -94,10 +95,11 @@ impl Journal {
         ensures { Done (read kiosk row source) self.old result self.new }
     {
         let number = self.acting(kiosk, Event::Read)?;
-        if row as usize >= ROWS {
+        if usize::from(row) >= ROWS {
             return Err(Refusal::NoSuchRow);
         }
-        let reader = self.reader_after(number, row, source)?;
+        let read = OuterRead { row, source };
+        let reader = self.reader_after(number, self.table.at(number), read)?;
         self.table.put(number, reader);
         Ok(reader.reads_made())
     }
@@ -107,7 +109,7 @@ impl Journal {
         ensures { Done (write kiosk row) self.old result self.new }
     {
         let number = self.acting(kiosk, Event::Write)?;
-        if row as usize >= ROWS {
+        if usize::from(row) >= ROWS {
             return Err(Refusal::NoSuchRow);
         }
         let writer = self.table.at(number).with_row(row);
@@ -117,7 +119,8 @@ impl Journal {
 
     /// The kiosk's open transaction ends in the state; the answer is its number.
     fn end(&mut self, kiosk: u8, event: Event, state: State) -> Result<u8, Refusal>
-        requires { (is_begin event ≡ false) × (is_open state ≡ false) }
+        requires no_begin { is_begin event ≡ false }
+        requires ended { is_open state ≡ false }
         ensures { ComesTo (end_at (of_journal self.old) kiosk state) self.old result self.new }
     {
         let number = self.acting(kiosk, event)?;

@@ -1,10 +1,11 @@
 ghost use Rattle.std.specs.Prelude.{◌≡◌, ◌<◌, length};
-ghost use Rattle.journal.specs.Limits.{most_reads, row_count};
+ghost use Rattle.journal.specs.Limits.{most_reads};
 ghost use Rattle.journal.specs.Recorded.{txn};
 ghost use Rattle.journal.specs.Transactions.{begun, with_read, with_row, with_state};
 
-use crate::limits::{MOST_READS, ROWS};
+use crate::few::Few;
 use crate::mark::Mark;
+use crate::number_set::NumberSet;
 use crate::transaction::{OuterRead, State, Transaction};
 
 impl Transaction {
@@ -16,39 +17,33 @@ impl Transaction {
             kiosk,
             mark,
             state: State::Open,
-            made: 0,
-            reads: [OuterRead { row: 0, source: 0 }; MOST_READS],
-            rows: [false; ROWS],
+            reads: Few::none(OuterRead { row: 0, source: 0 }),
+            rows: NumberSet::none(),
         }
     }
 
     /// The same with one more outer read.
-    pub(crate) fn with_read(self, row: u8, source: u8) -> Transaction
+    pub(crate) fn with_read(mut self, read: OuterRead) -> Transaction
         requires { length (txn self).reads < most_reads }
-        ensures { txn result ≡ with_read row source (txn self) }
+        ensures { txn result ≡ with_read read.row read.source (txn self) }
     {
-        let mut t = self;
-        t.reads[t.made] = OuterRead { row, source };
-        t.made += 1;
-        t
+        self.reads.push(read);
+        self
     }
 
     /// The same with the row among its rows.
-    pub(crate) fn with_row(self, row: u8) -> Transaction
-        requires { row < row_count }
+    pub(crate) fn with_row(mut self, row: u8) -> Transaction
         ensures { txn result ≡ with_row row (txn self) }
     {
-        let mut t = self;
-        t.rows[row as usize] = true;
-        t
+        self.rows.insert(row);
+        self
     }
 
     /// The same in another state.
-    pub(crate) fn with_state(self, state: State) -> Transaction
+    pub(crate) fn with_state(mut self, state: State) -> Transaction
         ensures { txn result ≡ with_state state (txn self) }
     {
-        let mut t = self;
-        t.state = state;
-        t
+        self.state = state;
+        self
     }
 }

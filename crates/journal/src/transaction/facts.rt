@@ -3,7 +3,6 @@ ghost use Rattle.journal.specs.Limits.{most_reads};
 ghost use Rattle.journal.specs.Recorded.{txn};
 ghost use Rattle.journal.specs.Transactions.{counted, has_row, serves};
 
-use crate::limits::ROWS;
 use crate::mark::Mark;
 use crate::transaction::{OuterRead, State, Transaction};
 
@@ -31,7 +30,7 @@ impl Transaction {
         ensures list { result.now ≡ (txn self.now).reads }
         ensures few { length result.now ≤ most_reads }
     {
-        &self.reads[0..self.made]
+        self.reads.as_slice()
     }
 
     /// How many outer reads it has.
@@ -39,36 +38,29 @@ impl Transaction {
         ensures count { result ≡ length (txn self.now).reads }
         ensures few { result ≤ most_reads }
     {
-        self.made as u8
+        // At most 16 (`limits.rt`).
+        self.reads().len() as u8
     }
 
     /// Whether it has written the row; no row above 63 is ever written.
     pub fn wrote(&self, row: u8) -> bool
         ensures { result ≡ has_row (txn self.now) row }
     {
-        (row as usize) < ROWS && self.rows[row as usize]
+        self.rows.holds(row)
     }
 
     /// Whether a value of the row can come from it: it is committed, and has written the row.
     pub(crate) fn serves(&self, row: u8) -> bool
         ensures { result ≡ serves (txn self.now) row }
     {
-        match self.state {
-            State::Committed => self.wrote(row),
-            State::Open | State::Aborted => false,
-        }
+        self.wrote(row) && self.state == State::Committed
     }
 
     /// How many different rows it has written.
     pub fn rows_written(&self) -> u8
         ensures { result ≡ counted (txn self.now).rows }
     {
-        let mut n = 0;
-        for wrote in self.rows {
-            if wrote {
-                n += 1;
-            }
-        }
-        n
+        // At most 64 (`limits.rt`).
+        self.rows.count() as u8
     }
 }

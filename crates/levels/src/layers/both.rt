@@ -14,7 +14,7 @@ pub struct Both<A, B> {
 impl<A: Level, B: Level> Level for Both<A, B> {
     ghost meaning = { λ l. both (A.Level.meaning l.first) (B.Level.meaning l.second) };
 
-    ghost lawful = { λ l. both_lawful (A.Level.meaning l.first) (B.Level.meaning l.second) (A.Level.lawful l.first) (B.Level.lawful l.second) };
+    ghost lawful = { λ l. both_lawful _ _ (A.Level.lawful l.first) (B.Level.lawful l.second) };
 
     fn allows(&self, journal: &Journal, run: &[u8]) -> bool {
         self.first.allows(journal, run) && self.second.allows(journal, run)

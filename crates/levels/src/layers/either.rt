@@ -4,6 +4,7 @@ use crate::level::Level;
 use journal::Journal;
 
 /// A level of one of two types, which answers as that one does.
+// An enum of its own and not `Result`: neither level is the failure of the other.
 #[derive(Drop)]
 pub enum Either<A, B> {
     First(A),

@@ -1,37 +1,20 @@
 ghost use Rattle.journal.specs.Calls.{of_journal};
 ghost use Rattle.journal.specs.Dependencies.{mark_at};
-ghost use Rattle.levels.specs.Layers.{at_mark, is_mark, never};
-ghost use Rattle.levels.specs.Nests.{AnswersByMark, nest};
+ghost use Rattle.levels.specs.ByMark.{AnswersByMark, meaning_of};
+ghost use Rattle.levels.specs.Layering.{at_mark_lawful, by_mark_lawful};
+ghost use Rattle.levels.specs.Layers.{at_mark};
 ghost use Rattle.levels.specs.Runs.{last};
 ghost use Rattle.std.specs.Prelude.{◌≡◌};
-ghost use Rattle.levels.specs.Layering.{never_lawful, at_mark_lawful};
 
 use crate::dependencies::last_of;
 use crate::level::Level;
 use journal::{Journal, Mark};
 
-/// Says no of everything.
-#[derive(Drop)]
-pub struct Never;
-
-impl Level for Never {
-    ghost meaning = { λ _. never };
-
-    ghost lawful = { λ l. never_lawful };
-
-    fn allows(&self, _journal: &Journal, _run: &[u8]) -> bool {
-        false
-    }
-}
-
-/// Whether the list ends in a transaction with the mark.
-fn ends_in(journal: &Journal, run: &[u8], mark: Mark) -> bool
-    ensures { result ≡ is_mark (mark_at (of_journal journal.now) (last run.now)) mark }
+/// The mark of the last member, if the list ends in a transaction.
+fn last_mark(journal: &Journal, run: &[u8]) -> Option<Mark>
+    ensures { result ≡ mark_at (of_journal journal.now) (last run.now) }
 {
-    match last_of(journal, run) {
-        Some(t) => t.mark().number() == mark.number(),
-        None => false,
-    }
+    last_of(journal, run).map(|t| t.mark())
 }
 
 /// One level where the last member has the mark, and the other elsewhere.
@@ -45,10 +28,10 @@ pub struct AtMark<A, B> {
 impl<A: Level, B: Level> Level for AtMark<A, B> {
     ghost meaning = { λ l. at_mark l.mark (A.Level.meaning l.at) (B.Level.meaning l.other) };
 
-    ghost lawful = { λ l. at_mark_lawful l.mark (A.Level.meaning l.at) (B.Level.meaning l.other) (A.Level.lawful l.at) (B.Level.lawful l.other) };
+    ghost lawful = { λ l. at_mark_lawful l.mark _ _ (A.Level.lawful l.at) (B.Level.lawful l.other) };
 
     fn allows(&self, journal: &Journal, run: &[u8]) -> bool {
-        if ends_in(journal, run, self.mark) {
+        if last_mark(journal, run) == Some(self.mark) {
             self.at.allows(journal, run)
         } else {
             self.other.allows(journal, run)
@@ -56,47 +39,37 @@ impl<A: Level, B: Level> Level for AtMark<A, B> {
     }
 }
 
-/// The level with the number of the last member's mark answers, among six.
-pub type ByMark<L1, L2, L3, L4, L5, L6> = AtMark<
-    L1,
-    AtMark<L2, AtMark<L3, AtMark<L4, AtMark<L5, AtMark<L6, Never>>>>>,
->;
+/// A level for each mark: that of the last member's mark answers.
+#[derive(Drop)]
+pub struct ByMark<L1, L2, L3, L4, L5, L6> {
+    pub read_committed: L1,
+    pub read_atomic: L2,
+    pub causal: L3,
+    pub prefix: L4,
+    pub snapshot: L5,
+    pub serializable: L6,
+}
 
-/// The levels nested, each at its own mark.
-fn nested<L1, L2, L3, L4, L5, L6>(
-    one: L1,
-    two: L2,
-    three: L3,
-    four: L4,
-    five: L5,
-    six: L6,
-) -> ByMark<L1, L2, L3, L4, L5, L6>
-    ensures { result ≡ nest one two three four five six }
-{
-    AtMark {
-        mark: Mark::ReadCommitted,
-        at: one,
-        other: AtMark {
-            mark: Mark::ReadAtomic,
-            at: two,
-            other: AtMark {
-                mark: Mark::Causal,
-                at: three,
-                other: AtMark {
-                    mark: Mark::Prefix,
-                    at: four,
-                    other: AtMark {
-                        mark: Mark::Snapshot,
-                        at: five,
-                        other: AtMark {
-                            mark: Mark::Serializable,
-                            at: six,
-                            other: Never,
-                        },
-                    },
-                },
-            },
-        },
+impl<L1: Level, L2: Level, L3: Level, L4: Level, L5: Level, L6: Level> Level
+    for ByMark<L1, L2, L3, L4, L5, L6> {
+    ghost meaning = { meaning_of L1.Level.meaning L2.Level.meaning L3.Level.meaning
+        L4.Level.meaning L5.Level.meaning L6.Level.meaning };
+
+    ghost lawful = { λ l. by_mark_lawful _ _ _ _ _ _
+        (L1.Level.lawful l.read_committed) (L2.Level.lawful l.read_atomic)
+        (L3.Level.lawful l.causal) (L4.Level.lawful l.prefix)
+        (L5.Level.lawful l.snapshot) (L6.Level.lawful l.serializable) };
+
+    fn allows(&self, journal: &Journal, run: &[u8]) -> bool {
+        match last_mark(journal, run) {
+            Some(Mark::ReadCommitted) => self.read_committed.allows(journal, run),
+            Some(Mark::ReadAtomic) => self.read_atomic.allows(journal, run),
+            Some(Mark::Causal) => self.causal.allows(journal, run),
+            Some(Mark::Prefix) => self.prefix.allows(journal, run),
+            Some(Mark::Snapshot) => self.snapshot.allows(journal, run),
+            Some(Mark::Serializable) => self.serializable.allows(journal, run),
+            None => false,
+        }
     }
 }
 
@@ -109,8 +82,22 @@ pub fn by_mark<L1, L2, L3, L4, L5, L6>(
     five: L5,
     six: L6,
 ) -> ByMark<L1, L2, L3, L4, L5, L6>
-    ensures made { result ≡ nest one two three four five six }
+    ensures made { result ≡ record {
+      read_committed = one;
+      read_atomic = two;
+      causal = three;
+      prefix = four;
+      snapshot = five;
+      serializable = six;
+    } }
     ensures answers { AnswersByMark one two three four five six result }
 {
-    nested(one, two, three, four, five, six)
+    ByMark {
+        read_committed: one,
+        read_atomic: two,
+        causal: three,
+        prefix: four,
+        snapshot: five,
+        serializable: six,
+    }
 }

@@ -1,25 +1,24 @@
-ghost use Rattle.std.specs.Prelude.{◌≡◌, ℕ, ◌≤◌};
 ghost use Rattle.journal.specs.Calls.{of_journal};
-ghost use Rattle.journal.specs.Limits.{most_transactions};
 ghost use Rattle.levels.specs.Axioms.{Causal as SightCausal};
-ghost use Rattle.levels.specs.Numbers.{has};
-ghost use Rattle.levels.specs.Rule.{causal, linked, past};
-ghost use Rattle.levels.specs.Runs.{Closed};
+ghost use Rattle.levels.specs.Rule.{causal};
+ghost use Rattle.levels.specs.Visibility.{ShowsFirst};
 ghost use Rattle.levels.specs.Causality.{causal_tells};
 ghost use Rattle.levels.specs.Sharing.{causal_local, causal_thinned};
 
-use crate::dependencies::{direct, last_number};
+use crate::dependencies::direct;
 use crate::numbers::Numbers;
 use crate::visibility::Visibility;
 use journal::{Journal, OuterRead};
 
 /// The direct dependencies of the last member, and of each member among them, by one backward pass.
 fn causal_past(journal: &Journal, run: &[u8]) -> Numbers
-    ensures { Closed (of_journal journal.now) run.now → (u : ℕ) → u ≤ most_transactions → has result u ≡ linked (of_journal journal.now) u (past (of_journal journal.now) run.now) }
+    ensures { ShowsFirst causal (of_journal journal.now) run.now result }
 {
-    let mut found = direct(journal, last_number(run));
-    for j in (0..run.len().saturating_sub(1)).rev() {
-        let member = run[j];
+    let [earlier @ .., last] = run else {
+        return Numbers::none();
+    };
+    let mut found = direct(journal, *last);
+    for &member in earlier.iter().rev() {
         if found.holds(member) {
             found.add(&direct(journal, member));
         }

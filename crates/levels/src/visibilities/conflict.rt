@@ -1,30 +1,27 @@
-ghost use Rattle.std.specs.Prelude.{◌≡◌, ℕ, ◌≤◌, ◌&&◌, length};
+ghost use Rattle.std.specs.Prelude.{◌≡◌, ◌&&◌, length};
 ghost use Rattle.journal.specs.Calls.{of_journal};
-ghost use Rattle.journal.specs.Limits.{most_transactions};
 ghost use Rattle.levels.specs.Axioms.{Conflict as SightConflict};
-ghost use Rattle.levels.specs.Numbers.{has};
+ghost use Rattle.levels.specs.Numbers.{HoldsExactly};
 ghost use Rattle.levels.specs.Rule.{conflict};
-ghost use Rattle.levels.specs.Runs.{Closed, last};
-ghost use Rattle.levels.specs.Tests.{both_wrote, earlier};
-ghost use Rattle.levels.specs.Visibility.{Shows};
+ghost use Rattle.levels.specs.Tests.{both_wrote, earlier as stands_before};
+ghost use Rattle.levels.specs.Visibility.{ShowsFirst};
 ghost use Rattle.levels.specs.Sights.{conflict_tells};
 ghost use Rattle.levels.specs.Sharing.{conflict_local, conflict_thinned};
 
-use crate::dependencies::{both_wrote, last_number};
+use crate::dependencies::both_wrote;
 use crate::numbers::Numbers;
 use crate::visibilities::reach::up_to_marked;
 use crate::visibility::Visibility;
 use journal::{Journal, OuterRead};
 
-/// The members that wrote a row which the last one wrote too.
-fn conflicting(journal: &Journal, run: &[u8]) -> Numbers
-    ensures { (u : ℕ) → u ≤ most_transactions → has result u ≡ (both_wrote (of_journal journal.now) u (last run.now) && earlier run.now u (length run.now)) }
+/// The earlier members that wrote a row which the last one wrote too.
+fn conflicting(journal: &Journal, earlier: &[u8], last: u8) -> Numbers
+    ensures { HoldsExactly result (λ u. both_wrote (of_journal journal.now) u last && stands_before earlier.now u (length earlier.now)) }
 {
     let mut found = Numbers::none();
-    let last = last_number(run);
-    for &u in run {
-        if both_wrote(journal, u, last) {
-            found.insert(u);
+    for &member in earlier {
+        if both_wrote(journal, member, last) {
+            found.insert(member);
         }
     }
     found
@@ -32,9 +29,12 @@ fn conflicting(journal: &Journal, run: &[u8]) -> Numbers
 
 /// The members up to the last one that wrote a row which the run's last member wrote too.
 fn up_to_conflicting(journal: &Journal, run: &[u8]) -> Numbers
-    ensures { Closed (of_journal journal.now) run.now → Shows conflict (of_journal journal.now) run.now 0 result }
+    ensures { ShowsFirst conflict (of_journal journal.now) run.now result }
 {
-    up_to_marked(run, &conflicting(journal, run))
+    let [earlier @ .., last] = run else {
+        return Numbers::none();
+    };
+    up_to_marked(earlier, &conflicting(journal, earlier, *last))
 }
 
 /// An earlier member that wrote a row which the last one wrote too is visible, and so is what stands before it.

@@ -1,32 +1,29 @@
-ghost use Rattle.std.specs.Prelude.{◌≡◌, ℕ, ◌-◌, ◌<◌, ◌≤◌, length, nat_lt};
+ghost use Rattle.std.specs.Prelude.{◌≡◌, ℕ, ◌<◌, ◌≤◌, length, nat_lt};
 ghost use Rattle.journal.specs.Limits.{most_transactions};
-ghost use Rattle.levels.specs.Numbers.{has};
-ghost use Rattle.levels.specs.Rule.{up_to};
+ghost use Rattle.journal.specs.NumberSet.{has};
+ghost use Rattle.levels.specs.Rule.{from_place};
 ghost use Rattle.levels.specs.Runs.{Once, member};
 
 use crate::numbers::Numbers;
 
-/// How many members stand up to the last marked one, the run's own last left aside.
-fn marked_length(run: &[u8], marked: &Numbers) -> usize
-    ensures reach { (j : ℕ) → up_to (has marked.now) run.now j ≡ nat_lt j result }
-    ensures within { result ≤ length run.now - 1 }
+/// How many members stand up to the last marked one.
+fn marked_length(members: &[u8], marked: &Numbers) -> usize
+    ensures reach { (j : ℕ) → from_place (has marked.now) members.now j ≡ nat_lt j result }
+    ensures within { result ≤ length members.now }
 {
-    let mut reach = 0;
-    for k in 0..run.len().saturating_sub(1) {
-        if marked.holds(run[k]) {
-            reach = k + 1;
-        }
-    }
-    reach
+    members
+        .iter()
+        .rposition(|&member| marked.holds(member))
+        .map_or(0, |place| place + 1)
 }
 
-/// The members up to the last marked one, the run's own last left aside, of those that stand once in the run.
-pub(crate) fn up_to_marked(run: &[u8], marked: &Numbers) -> Numbers
-    ensures { (j : ℕ) → j < length run.now - 1 → member run.now j ≤ most_transactions → Once run.now j → has result (member run.now j) ≡ up_to (has marked.now) run.now j }
+/// The members up to the last marked one, of those that stand once in the list.
+pub(crate) fn up_to_marked(members: &[u8], marked: &Numbers) -> Numbers
+    ensures { (j : ℕ) → j < length members.now → member members.now j ≤ most_transactions → Once members.now j → has result (member members.now j) ≡ from_place (has marked.now) members.now j }
 {
     let mut found = Numbers::none();
-    for k in 0..marked_length(run, marked) {
-        found.insert(run[k]);
+    for &member in &members[..marked_length(members, marked)] {
+        found.insert(member);
     }
     found
 }

@@ -3,7 +3,7 @@ ghost use Rattle.levels.specs.Rule.{read_atomic};
 ghost use Rattle.levels.specs.Sights.{read_atomic_tells};
 ghost use Rattle.levels.specs.Sharing.{read_atomic_local, read_atomic_thinned};
 
-use crate::dependencies::{direct, last_number};
+use crate::dependencies::direct;
 use crate::numbers::Numbers;
 use crate::visibility::Visibility;
 use journal::{Journal, OuterRead};
@@ -24,7 +24,10 @@ impl Visibility for ReadAtomic {
     ghost thinned = { λ v. read_atomic_thinned };
 
     fn first(&self, journal: &Journal, run: &[u8]) -> Numbers {
-        direct(journal, last_number(run))
+        let [.., last] = run else {
+            return Numbers::none();
+        };
+        direct(journal, *last)
     }
 
     fn next(&self, _read: OuterRead, seen: Numbers) -> Numbers {

@@ -3,7 +3,7 @@ ghost use Rattle.levels.specs.Rule.{read_committed};
 ghost use Rattle.levels.specs.Sights.{read_committed_tells};
 ghost use Rattle.levels.specs.Sharing.{read_committed_local, read_committed_thinned};
 
-use crate::dependencies::{last_number, sessions_before};
+use crate::dependencies::sessions_before;
 use crate::numbers::Numbers;
 use crate::visibility::Visibility;
 use journal::{Journal, OuterRead};
@@ -24,11 +24,13 @@ impl Visibility for ReadCommitted {
     ghost thinned = { λ v. read_committed_thinned };
 
     fn first(&self, journal: &Journal, run: &[u8]) -> Numbers {
-        sessions_before(journal, last_number(run))
+        let [.., last] = run else {
+            return Numbers::none();
+        };
+        sessions_before(journal, *last)
     }
 
-    fn next(&self, read: OuterRead, seen: Numbers) -> Numbers {
-        let mut seen = seen;
+    fn next(&self, read: OuterRead, mut seen: Numbers) -> Numbers {
         seen.insert(read.source);
         seen
     }

@@ -1,19 +1,15 @@
-use Rattle.std.proofs.Common.{◌≡◌, ◌≤◌, true, false, ◌||◌, eqb, sym, refl, ap, ◌∙◌, inl, inr, add-one, arith}
+use Rattle.std.proofs.Common.{◌≡◌, ◌≤◌, true, ◌||◌, eqb, sym, ap, ◌∙◌, inl, inr, add-one, arith}
 use mathlib.Core.Path.{fun_ext}
-use Rattle.std.proofs.lemmas.Bool.{and_parts, cases_lt, or_from, ne_eqb}
+use Rattle.std.proofs.lemmas.Bool.{and_parts, cases_lt, ne_eqb}
 use Rattle.journal.specs.Calls.{of_journal}
 use Rattle.journal.specs.Dependencies.{committed}
 use Rattle.journal.specs.Limits.{most_transactions}
-use Rattle.levels.specs.Numbers.{has}
+use Rattle.journal.specs.NumberSet.{has}
 use Rattle.levels.specs.Runs.{member}
 use Rattle.levels.specs.Tests.{rests, rests_on, earlier}
-use Rattle.levels.specs.Decided.{all_fails, all_more}
+use Rattle.levels.proofs.Below.{all_fails, all_more}
 use Rattle.levels.proofs.Members.{number_fits}
-use Rattle.levels.proofs.Sets.{beyond}
 use Rattle.levels.proofs.closed.is_closed.Goals as goal
-
-pub loop-number-init : goal.loop-number-init
-loop-number-init c = (refl, c.none-seen.ensures)
 
 pub returns-then-not-rests_on : goal.returns-then-not-rests_on
 returns-then-not-rests_on c =
@@ -34,9 +30,7 @@ loop-number-preserved c =
     let fits : t ≤ most_transactions = number_fits h c.args.journal.now.reached t (and_parts (committed h t) _ yes).0 in (
       all_more (rests h run) i (ap (λ f. rests_on h f t) (sym seen) ∙ yes) c.loop-number.invariant.0,
       λ n. elim (cases_lt n 33) [
-        | inl l ↦ c.insert.ensures n (omega arith) ∙ ap (λ b. eqb t n || b) (c.loop-number.invariant.1 n) ∙ sym (ap (earlier run n) (add-one i))
-        | inr g ↦
-            let none : earlier run n i ≡ false = sym (c.loop-number.invariant.1 n) ∙ beyond c.loop-number.seen n (omega arith) in
-            beyond c.insert.new.self n (omega arith) ∙ sym (ap (earlier run n) (add-one i) ∙ or_from (eqb t n) (earlier run n i) (ne_eqb t n (λ z. absurd (omega arith))) none)
+        | inl l ↦ c.insert.ensures.each n (omega arith) ∙ ap (λ b. eqb t n || b) (c.loop-number.invariant.1 n) ∙ sym (ap (earlier run n) (add-one i))
+        | inr g ↦ c.insert.ensures.others n (λ z. absurd (omega arith)) ∙ c.loop-number.invariant.1 n ∙ sym (ap (earlier run n) (add-one i) ∙ ap (λ b. b || earlier run n i) (ne_eqb t n (λ z. absurd (omega arith))))
       ],
     )

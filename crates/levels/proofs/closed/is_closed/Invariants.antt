@@ -1,6 +1,6 @@
 use Rattle.std.proofs.Common.{◌≡◌, ℕ, true}
 use Rattle.journal.specs.Calls.{of_journal}
-use Rattle.levels.specs.Numbers.{has}
+use Rattle.journal.specs.NumberSet.{has}
 use Rattle.levels.specs.Tests.{all_below, rests, earlier}
 use Rattle.levels.proofs.closed.is_closed.Given as goal
 

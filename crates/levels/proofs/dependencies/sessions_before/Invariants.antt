@@ -3,7 +3,7 @@ use Rattle.journal.specs.Calls.{of_journal}
 use Rattle.journal.specs.Dependencies.{kiosk_at}
 use Rattle.journal.specs.Limits.{most_transactions}
 use Rattle.journal.specs.Recorded.{txn}
-use Rattle.levels.specs.Numbers.{has}
+use Rattle.journal.specs.NumberSet.{has}
 use Rattle.levels.specs.Tests.{same_kiosk}
 use Rattle.levels.proofs.dependencies.sessions_before.Given as goal
 

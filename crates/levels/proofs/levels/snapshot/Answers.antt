@@ -1,6 +1,5 @@
-use Rattle.levels.specs.Layering.{snapshot_decides}
-use Rattle.std.proofs.Common.{refl}
+use Rattle.levels.proofs.Exactness.{snapshot_decides}
 use Rattle.levels.proofs.levels.snapshot.Goals as goal
 
-pub returns : goal.returns
-returns c = record { made = refl; exactly = snapshot_decides }
+pub returns-clause-exactly : goal.returns-clause-exactly
+returns-clause-exactly c = snapshot_decides

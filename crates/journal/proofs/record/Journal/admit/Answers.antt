@@ -7,4 +7,4 @@ use Rattle.journal.proofs.record.Journal.admit.Goals as goal
 pub returns : goal.returns
 returns c =
     let h = of_journal c.args.self.now in
-    c.admit.ensures ∙ admits-admitted h c.args.kiosk c.args.event c.state_of.result c.latest_of-latest.result c.len.result (sound_reached h c.args.self.now.reached) c.latest_of-latest.ensures c.state_of.ensures c.len.ensures.count
+    c.admit.ensures ∙ admits-admitted h c.args.kiosk c.args.event c.latest_of.result c.len.result (sound_reached h c.args.self.now.reached) c.latest_of.ensures c.len.ensures.count

@@ -1,15 +1,14 @@
-use Rattle.std.proofs.Common.{◌≡◌, ℕ, ◌<◌, true, length, get_or, is_some, sym, refl, ap, ◌∙◌, subst, add-one, arith}
-use Rattle.std.proofs.lemmas.Bool.{both_ways}
+use Rattle.std.proofs.Common.{◌≡◌, ℕ, true, length, get_or, sym, refl, ap, ◌∙◌, subst, add-one, arith}
 use Rattle.journal.specs.Calls.{of_journal}
 use Rattle.journal.specs.Dependencies.{no_read, reads_at, reads_in}
 use Rattle.levels.specs.Rule.{read_kept}
 use Rattle.levels.specs.Runs.{last}
 use Rattle.levels.specs.Tests.{all_below}
-use Rattle.levels.specs.Decided.{all_more}
+use Rattle.levels.proofs.Below.{all_more}
 use Rattle.levels.specs.Closedness.{closed_decides}
 use Rattle.levels.specs.Visibility.{Shows}
 use Rattle.levels.proofs.Members.{member_fits}
-use Rattle.levels.proofs.Asking.{not_closed, ends_in_nobody, not_kept, all_kept, kept_by, answers, ends_in_somebody}
+use Rattle.levels.proofs.Asking.{not_closed, not_kept, all_kept, kept_by, answers}
 use Rattle.levels.proofs.rule.RuleLevel.allows.Goals as goal
 
 pub returns-then-not-is_closed : goal.returns-then-not-is_closed
@@ -19,15 +18,11 @@ returns-then-not-is_closed g c =
     let run = c.args.run.now in
     answers (g.V.Visibility.visible v) h run (g.V.Visibility.sees v) (g.met.V.Visibility.tells v) (not_closed (g.V.Visibility.visible v) h run (sym c.if-not-is_closed.ensures))
 
-pub returns-in_default : goal.returns-in_default
-returns-in_default g c =
-    let v = c.args.self.now.visibility in
+pub loop-read-init : goal.loop-read-init
+loop-read-init g c =
     let h = of_journal c.args.journal.now in
     let run = c.args.run.now in
-    answers (g.V.Visibility.visible v) h run (g.V.Visibility.sees v) (g.met.V.Visibility.tells v) (ends_in_nobody (g.V.Visibility.visible v) h run (sym c.if-not-is_closed.ensures) (sym c.in_default.ensures))
-
-pub loop-read-init : goal.loop-read-init
-loop-read-init g c = (refl, c.first-seen.ensures ((closed_decides (of_journal c.args.journal.now) c.args.run.now).0 (sym c.if-not-is_closed.ensures)))
+    (refl, c.first-seen.ensures ((closed_decides h run).0 (sym c.if-not-is_closed.ensures)))
 
 pub returns-then-not-is_kept : goal.returns-then-not-is_kept
 returns-then-not-is_kept g c =
@@ -65,6 +60,5 @@ returns g c =
     let a = c.loop-read-test.false in
     let b = c.loop-read.auto.read-index-end in
     let e : c.loop-read.read-index ≡ length (reads_at h (last run)) = omega (arith, ap length reads) in
-    let some : 0 < length run = ends_in_somebody h run (λ z. both_ways true (ap is_some (c.in-Some.ensures ∙ z)) refl) in
     answers (g.V.Visibility.visible v) h run (g.V.Visibility.sees v) (g.met.V.Visibility.tells v)
-    (all_kept (g.V.Visibility.visible v) h run some (sym c.if-not-is_closed.ensures) (subst (λ (n : ℕ). all_below (read_kept (g.V.Visibility.visible v) h run) n ≡ true) e c.loop-read.invariant.0))
+    (all_kept (g.V.Visibility.visible v) h run c.in-len1-up.len_at_least (sym c.if-not-is_closed.ensures) (subst (λ (n : ℕ). all_below (read_kept (g.V.Visibility.visible v) h run) n ≡ true) e c.loop-read.invariant.0))

@@ -1,46 +1,66 @@
-use Rattle.std.proofs.Common.{◌≡◌, ℕ, suc, ◌-◌, ◌<◌, ◌≤◌, ◌||◌, length, drop, sym, ap, ◌∙◌, arith}
-use mathlib.Core.Bool.{or_comm}
+use Rattle.std.proofs.Common.{◌≡◌, ◌||◌, ◌-◌, [], ◌∷◌, ◌++◌, length, take, sym, ap, ◌∙◌}
+use mathlib.Core.Bool.{or-false, or_comm}
+use mathlib.Core.List.{append-nil}
 use Rattle.journal.specs.Calls.{of_journal}
-use Rattle.journal.specs.Limits.{most_transactions}
-use Rattle.levels.specs.Numbers.{has}
-use Rattle.levels.specs.Rule.{linked, past}
-use Rattle.levels.specs.Runs.{member}
+use Rattle.levels.specs.Rule.{causal, linked, past}
+use Rattle.levels.specs.Runs.{member, last}
 use Rattle.levels.specs.Tests.{direct}
-use Rattle.levels.proofs.Backward.{pass_starts, pass_adds, pass_skips}
-use Rattle.levels.proofs.Members.{member_fits}
+use Rattle.levels.proofs.Asking.{shows_run}
+use Rattle.levels.proofs.Backward.{all_gone, turned, passed_fits, pass_adds, pass_skips}
 use Rattle.levels.proofs.visibilities.causal.causal_past.Goals as goal
 
-pub loop-j-init : goal.loop-j-init
-loop-j-init c d n l =
-    let h = of_journal c.args.journal.now in
+pub loop-member-init : goal.loop-member-init
+loop-member-init c =
     let run = c.args.run.now in
-    c.direct-found.ensures n l ∙ ap (direct h n) c.last_number.ensures ∙ sym (ap (λ k. linked h n (past h (drop k run))) c.saturating_sub-j.ensures ∙ pass_starts h run n)
+    let earlier = take (length run - 1) run in
+    let t = last run in
+    let all : c.into_iter-member-iterator.result.iter.rest.now ≡ earlier = cc in
+    ([], append-nil _ ∙ all, λ d n l. c.direct-found.ensures n l ∙ sym (or-false (direct (of_journal c.args.journal.now) n t)))
 
-pub loop-j-preserved-then-holds : goal.loop-j-preserved-then-holds
-loop-j-preserved-then-holds c d n l =
+pub loop-member-preserved-then-holds : goal.loop-member-preserved-then-holds
+loop-member-preserved-then-holds c =
     let h = of_journal c.args.journal.now in
     let run = c.args.run.now in
-    let j = c.loop-j.j - 1 in
-    let a = c.loop-j-test.true in
-    let b = c.loop-j.auto.j in
-    let next : c.loop-j.j ≡ suc j = omega arith in
-    let lj : suc j < length run = omega (arith, c.saturating_sub-j.ensures) in
-    let held : (m : ℕ) → m ≤ most_transactions → has c.loop-j.found m ≡ linked h m (past h (drop (suc j) run)) = λ m lm. c.loop-j.invariant d m lm ∙ ap (λ k. linked h m (past h (drop k run))) next in
-    let fits = member_fits h c.args.journal.now.reached run d j (omega arith) in
-    c.add.ensures n
-    ∙ (λ i. held n l i || c.direct.ensures n l i)
-    ∙ or_comm (linked h n (past h (drop (suc j) run))) (direct h n (member run j))
-    ∙ sym (pass_adds h run j n lj (sym (held (member run j) fits) ∙ sym c.if-holds.ensures))
+    let earlier = take (length run - 1) run in
+    let t = last run in
+    let x = c.in-Some.field-0.now in
+    let gone = c.loop-member.invariant.0 in
+    let held = c.loop-member.invariant.2 in
+    let e = turned _ c.next.new.self.iter.rest.now gone earlier x c.in-Some.ensures.steps c.loop-member.invariant.1 in (
+      x ∷ gone,
+      e,
+      λ d n l.
+          let fits = passed_fits h c.args.journal.now.reached _ gone earlier x t e d in
+          c.add.ensures n
+          ∙ (λ i. held d n l i || c.direct.ensures n l i)
+          ∙ or_comm (linked h n (past h (gone ++ t ∷ []))) (direct h n x)
+          ∙ sym (pass_adds h x gone t n (sym (held d x fits) ∙ sym c.if-holds.ensures.value)),
+    )
 
-pub loop-j-preserved : goal.loop-j-preserved
-loop-j-preserved c d n l =
+pub loop-member-preserved : goal.loop-member-preserved
+loop-member-preserved c =
     let h = of_journal c.args.journal.now in
     let run = c.args.run.now in
-    let j = c.loop-j.j - 1 in
-    let a = c.loop-j-test.true in
-    let b = c.loop-j.auto.j in
-    let next : c.loop-j.j ≡ suc j = omega arith in
-    let lj : suc j < length run = omega (arith, c.saturating_sub-j.ensures) in
-    let held : (m : ℕ) → m ≤ most_transactions → has c.loop-j.found m ≡ linked h m (past h (drop (suc j) run)) = λ m lm. c.loop-j.invariant d m lm ∙ ap (λ k. linked h m (past h (drop k run))) next in
-    let fits = member_fits h c.args.journal.now.reached run d j (omega arith) in
-    held n l ∙ sym (pass_skips h run j n lj (sym (held (member run j) fits) ∙ sym c.if-holds.ensures))
+    let earlier = take (length run - 1) run in
+    let t = last run in
+    let x = c.in-Some.field-0.now in
+    let gone = c.loop-member.invariant.0 in
+    let held = c.loop-member.invariant.2 in
+    let e = turned _ c.next.new.self.iter.rest.now gone earlier x c.in-Some.ensures.steps c.loop-member.invariant.1 in (
+      x ∷ gone,
+      e,
+      λ d n l.
+          let fits = passed_fits h c.args.journal.now.reached _ gone earlier x t e d in
+          held d n l ∙ sym (pass_skips h x gone t n (sym (held d x fits) ∙ sym c.if-holds.ensures.value)),
+    )
+
+pub returns : goal.returns
+returns c =
+    let h = of_journal c.args.journal.now in
+    let run = c.args.run.now in
+    let earlier = take (length run - 1) run in
+    let t = last run in
+    let gone = c.loop-member.invariant.0 in
+    shows_run causal h run c.loop-member.found c.in-len1-up.len_at_least (λ d j l fits.
+    let u = member (earlier ++ t ∷ []) j in
+    c.loop-member.invariant.2 d u fits ∙ ap (λ xs. linked h u (past h (xs ++ t ∷ []))) (all_gone _ gone earlier c.in-None.ensures.steps.0 c.loop-member.invariant.1))

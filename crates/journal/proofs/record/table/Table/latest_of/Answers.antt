@@ -1,24 +1,22 @@
-use Rattle.std.proofs.Common.{ℕ, ◌+◌, ◌≤◌, Bool, eqb, length, get_or, drop, sym, ap, ◌∙◌, arith}
-use Rattle.std.proofs.lemmas.List.{at_drop_all}
-use Rattle.std.proofs.lemmas.Bool.{cond-true, cond-false, eq-eqb, ne_eqb}
-use Rattle.journal.specs.Admission.{latest_from}
-use Rattle.journal.specs.Recorded.{txn, recorded}
-use Rattle.journal.proofs.Tables.{length-recorded, latest_step}
+use Rattle.std.proofs.Common.{◌≢◌, List, map, Some, None, ◌+◌, subst}
+use Rattle.std.proofs.lemmas.List.Elements.{All-map}
+use Rattle.journal.specs.Admission.{IsLatest}
+use Rattle.journal.specs.Recorded.{txn}
+use Rattle.journal.specs.declared.transaction.Transaction.{Transaction}
+use Rattle.journal.proofs.Tables.{latest_is}
 use Rattle.journal.proofs.record.table.Table.latest_of.Goals as goal
-use Rattle.journal.proofs.record.table.Table.latest_of.Goals.{then-kiosk, else-kiosk}
 
-pub loop-i-preserved : goal.loop-i-preserved
-loop-i-preserved c =
-    let a = latest_step c.args.self.now c.loop-i.i c.args.kiosk c.loop-i.last c.index-self-i.result (omega arith) in
-    let F : ℕ → ℕ = λ last. latest_from (c.loop-i.i + 1) (drop (c.loop-i.i + 1) (recorded c.args.self.now)) c.args.kiosk last in
-    let b : Bool = eqb (txn (get_or c.args.self.now.transactions c.loop-i.i c.index-self-i.result)).kiosk c.args.kiosk in
-    elim c.if-kiosk.branch [
-      | then-kiosk w ↦ ap F (w.last-is ∙ sym (cond-true b (c.loop-i.i + 1) c.loop-i.last (eq-eqb _ _ (sym c.kiosk.ensures ∙ w.if-kiosk.true)))) ∙ sym a ∙ c.loop-i.invariant
-      | else-kiosk w ↦ ap F (w.last-is ∙ sym (cond-false b (c.loop-i.i + 1) c.loop-i.last (ne_eqb _ _ (λ e. w.if-kiosk.false (c.kiosk.ensures ∙ e))))) ∙ sym a ∙ c.loop-i.invariant
-    ]
+pub returns-in_err-place : goal.returns-in_err-place
+returns-in_err-place c =
+    rw c.from_residual.ensures
+    (subst (λ (xs : List Transaction). IsLatest (map txn xs) c.args.kiosk None) c.as_slice-transactions.ensures.values
+    (All-map (λ t. t.kiosk ≢ c.args.kiosk) txn _ c.in_err-place.ensures.none))
 
 pub returns : goal.returns
 returns c =
-    let t = c.args.self.now in
-    let le : length (recorded t) ≤ c.loop-i.i = omega (arith, length-recorded t) in
-    sym (at_drop_all (λ l. latest_from c.loop-i.i l c.args.kiosk c.loop-i.last) (recorded t) c.loop-i.i le) ∙ c.loop-i.invariant
+    let t = c.index-transactions-place.result in
+    let p = c.in_ok-place.place in
+    let found = c.in_ok-place.ensures in
+    rw c.state.ensures
+    (subst (λ (xs : List Transaction). IsLatest (map txn xs) c.args.kiosk (Some (p + 1, t.state))) c.as_slice-transactions.ensures.values
+    (latest_is _ c.args.kiosk p t found.within c.index-transactions-place.is (rw c.index-transactions-place.is (found.at t)) found.later))
