@@ -28,7 +28,7 @@ module _ (h : History) (r : Reached h) (xs : List ℕ) (t : ℕ) (c : Closed h (
   once j lj k lk e = once_same h (xs ++ t ∷ []) c k j (omega (arith, long)) (omega (arith, long)) (same k lk ∙ e ∙ sym (same j lj))
 
   -- Marks that tell a test tell, of the members up to a marked one, those up to one that passes.
-  pub marked_shows : (held marked p : ℕ → Bool) → ((j : ℕ) → j < length xs → member xs j ≤ most_transactions → Once xs j → held (member xs j) ≡ from_place marked xs j) → ((k : ℕ) → k < length xs → member xs k ≤ most_transactions → marked (member xs k) ≡ p (member xs k)) → (j : ℕ) → j < length (xs ++ t ∷ []) - 1 → held (member (xs ++ t ∷ []) j) ≡ up_to p (xs ++ t ∷ []) j
+  pub marked_shows : (held marked p : ℕ → Bool) → ((j : ℕ) → j < length xs → member xs j ≤ most_transactions → Once xs j → held (member xs j) ≡ from_place marked xs (length xs) j) → ((k : ℕ) → k < length xs → member xs k ≤ most_transactions → marked (member xs k) ≡ p (member xs k)) → (j : ℕ) → j < length (xs ++ t ∷ []) - 1 → held (member (xs ++ t ∷ []) j) ≡ up_to p (xs ++ t ∷ []) j
   marked_shows held marked p shows tells j l =
       let lj : j < length xs = omega (arith, long) in
       ap held (same j lj) ∙ shows j lj (fits j lj) (once j lj)

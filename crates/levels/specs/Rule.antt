@@ -42,13 +42,13 @@ past h (u ∷ (v ∷ vs)) = let after = past h (v ∷ vs) in if linked h u after
 abbrev pub causal : Visible
 causal h run i j = linked h (member run j) (past h run)
 
--- The test passes at the place or at a later one.
-abbrev pub from_place : (ℕ → Bool) → List ℕ → ℕ → Bool
-from_place p xs j = some_below (λ k. nat_le j k && p (member xs k)) (length xs)
+-- The test passes at the place or at a later one, below place n.
+abbrev pub from_place : (ℕ → Bool) → List ℕ → ℕ → ℕ → Bool
+from_place p xs n j = some_below (λ k. nat_le j k && p (member xs k)) n
 
 -- The test passes at the place or at a later one, before the last.
 abbrev pub up_to : (ℕ → Bool) → List ℕ → ℕ → Bool
-up_to p run j = some_below (λ k. nat_le j k && p (member run k)) (length run - 1)
+up_to p run j = from_place p run (length run - 1) j
 
 abbrev pub prefix : Visible
 prefix h run i j = up_to (λ v. direct h v (last run)) run j

@@ -2,7 +2,6 @@ ghost use Rattle.journal.specs.Calls.{of_journal};
 ghost use Rattle.journal.specs.Dependencies.{committed, kiosk_at, source_of};
 ghost use Rattle.journal.specs.NumberSet.{has};
 ghost use Rattle.levels.specs.Tests.{all_below, closed, rests_on, same_kiosk, session_seen, source_seen};
-ghost use Rattle.std.specs.List.{list_all};
 ghost use Rattle.std.specs.Prelude.{◌≡◌, ◌&&◌, length, Some};
 
 use crate::numbers::Numbers;

@@ -1,11 +1,10 @@
-ghost use Rattle.std.specs.Prelude.{◌≡◌, ◌&&◌, ◌||◌, length, Some, nat_eq};
+ghost use Rattle.std.specs.Prelude.{◌≡◌, ◌&&◌, Some};
 ghost use Rattle.journal.specs.Calls.{of_journal};
-ghost use Rattle.journal.specs.Dependencies.{kiosk_at, source_of};
+ghost use Rattle.journal.specs.Dependencies.{kiosk_at};
 ghost use Rattle.journal.specs.History.{at_number};
 ghost use Rattle.journal.specs.Limits.{row_count};
 ghost use Rattle.journal.specs.Recorded.{txn};
 ghost use Rattle.journal.specs.Transactions.{has_row};
-ghost use Rattle.journal.specs.NumberSet.{has};
 ghost use Rattle.levels.specs.Numbers.{HoldsExactly};
 ghost use Rattle.levels.specs.Runs.{last};
 ghost use Rattle.levels.specs.Tests.{both_wrote, direct, same_kiosk, session_before, some_below};

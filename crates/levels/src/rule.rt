@@ -6,7 +6,7 @@ ghost use Rattle.levels.specs.Level.{Exact};
 ghost use Rattle.journal.specs.NumberSet.{has};
 ghost use Rattle.levels.specs.Rule.{allowed, rule};
 ghost use Rattle.levels.specs.Runs.{member};
-ghost use Rattle.levels.specs.Tests.{all_below, implies, later};
+ghost use Rattle.levels.specs.Tests.{all_below, later};
 ghost use Rattle.levels.specs.Laws.{rule_lawful};
 
 use crate::closed::is_closed;

@@ -1,4 +1,4 @@
-ghost use Rattle.std.specs.Prelude.{◌≡◌, ◌&&◌, length};
+ghost use Rattle.std.specs.Prelude.{◌&&◌, length};
 ghost use Rattle.journal.specs.Calls.{of_journal};
 ghost use Rattle.levels.specs.Axioms.{Conflict as SightConflict};
 ghost use Rattle.levels.specs.Numbers.{HoldsExactly};

@@ -8,7 +8,7 @@ use crate::numbers::Numbers;
 
 /// How many members stand up to the last marked one.
 fn marked_length(members: &[u8], marked: &Numbers) -> usize
-    ensures reach { (j : ℕ) → from_place (has marked.now) members.now j ≡ nat_lt j result }
+    ensures reach { (j : ℕ) → from_place (has marked.now) members.now (length members.now) j ≡ nat_lt j result }
     ensures within { result ≤ length members.now }
 {
     members
@@ -19,7 +19,7 @@ fn marked_length(members: &[u8], marked: &Numbers) -> usize
 
 /// The members up to the last marked one, of those that stand once in the list.
 pub(crate) fn up_to_marked(members: &[u8], marked: &Numbers) -> Numbers
-    ensures { (j : ℕ) → j < length members.now → member members.now j ≤ most_transactions → Once members.now j → has result (member members.now j) ≡ from_place (has marked.now) members.now j }
+    ensures { (j : ℕ) → j < length members.now → member members.now j ≤ most_transactions → Once members.now j → has result (member members.now j) ≡ from_place (has marked.now) members.now (length members.now) j }
 {
     let mut found = Numbers::none();
     for &member in &members[..marked_length(members, marked)] {
