@@ -9,6 +9,7 @@ use Rattle.journal.specs.History.{History}
 use Rattle.journal.specs.Dependencies.{no_read, reads_at}
 use Rattle.levels.specs.Axioms.{Sight, Obeys}
 use Rattle.journal.specs.NumberSet.{has}
+use Rattle.journal.specs.declared.number_set.NumberSet.{NumberSet}
 use Rattle.levels.specs.Rule.{Visible, allowed, read_kept, rule}
 use Rattle.levels.specs.Runs.{member, last}
 use Rattle.levels.specs.Tests.{all_below, closed}
@@ -27,7 +28,7 @@ module _ (visible : Visible) (h : History) (run : List ℕ) where
   all_kept l c e = sym (and_from (ltb 0 (length run)) _ (lt-ltb 0 (length run) l) (and_from (closed h run) _ c e))
 
   -- What the set shows is what the read sees.
-  pub kept_by : (i : ℕ) (seen : List Bool) (read : OuterRead) → ((j : ℕ) → j < length run → member run j ≤ most_transactions) → Shows visible h run i seen → get_or (reads_at h (last run)) i no_read ≡ read → all_below (λ j. allowed h run (has seen (member run j)) read.row read.source j) (length run - 1) ≡ read_kept visible h run i
+  pub kept_by : (i : ℕ) {N : ℕ} (seen : NumberSet N) (read : OuterRead) → ((j : ℕ) → j < length run → member run j ≤ most_transactions) → Shows visible h run i seen → get_or (reads_at h (last run)) i no_read ≡ read → all_below (λ j. allowed h run (has seen (member run j)) read.row read.source j) (length run - 1) ≡ read_kept visible h run i
   kept_by i seen read fits shows e =
       all_same (λ j. allowed h run (has seen (member run j)) read.row read.source j) _ (length run - 1)
       (λ j l. let s = shows j l (fits j (omega arith)) in let q = sym e in λ z. allowed h run (s z) (q z).row (q z).source j)
@@ -41,5 +42,5 @@ pub front_last : (run : List ℕ) → 0 < length run → take (length run - 1) r
 front_last run l = sym (take_more run (length run - 1) 0 (omega arith)) ∙ take_all (length run - 1 + 1) run (omega arith)
 
 -- So what is shown of these is shown of the run.
-pub shows_run : (visible : Visible) (h : History) (run : List ℕ) (seen : List Bool) → 0 < length run → ShowsFirst visible h (take (length run - 1) run ++ last run ∷ []) seen → ShowsFirst visible h run seen
+pub shows_run : (visible : Visible) (h : History) (run : List ℕ) {N : ℕ} (seen : NumberSet N) → 0 < length run → ShowsFirst visible h (take (length run - 1) run ++ last run ∷ []) seen → ShowsFirst visible h run seen
 shows_run visible h run seen l f = subst (λ (xs : List ℕ). ShowsFirst visible h xs seen) (front_last run l) f

@@ -49,6 +49,10 @@ fn is_kept(journal: &Journal, run: &[u8], seen: &Numbers, read: OuterRead) -> bo
     let [earlier @ .., _] = run else {
         return true;
     };
+    // Asked first: the place of the source is not looked for where there is nobody to stand after it.
+    if earlier.is_empty() {
+        return true;
+    }
     let from_source = &earlier[place_of(run, read.source)..];
     from_source
         .iter()

@@ -3,6 +3,7 @@ use crate::level::Level;
 use journal::Journal;
 use std::process::Abort;
 
+mod copies;
 mod layers;
 mod lists;
 mod mistakes;

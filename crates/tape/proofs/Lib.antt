@@ -1,2 +1,4 @@
+mod Decimals
+mod Texts
 mod Requests
 mod Wholes

@@ -1,6 +1,5 @@
 -- One line after another, along a tape.
-use Rattle.std.proofs.Common.{◌≡◌, ℕ, ◌+◌, ◌≤◌, List, [], ◌++◌, length, take, drop, Some, None, Ok, Option, sym, ap, ◌∙◌, append_assoc, append-nil, rules}
-use Rattle.std.proofs.lemmas.List.{take_at}
+use Rattle.std.proofs.Common.{◌≡◌, ℕ, ◌+◌, ◌≤◌, List, [], ◌++◌, length, take, Some, None, Ok, Option, ap, ◌∙◌, append_assoc, append-nil, rules}
 use Rattle.journal.specs.declared.record.Journal.{Journal}
 use Rattle.journal.specs.Calls.{of_journal}
 use Rattle.journal.specs.History.{History}
@@ -9,6 +8,7 @@ use Rattle.tape.specs.Playing.{Turned, reply, next_place, line_of}
 use Rattle.tape.specs.Records.{Found, found_at}
 use Rattle.tape.specs.Whole.{AllLines, Lines, answers_of, ended, played}
 use Rattle.tape.proofs.Requests.{lines_of_requests}
+use Rattle.tape.proofs.Texts.{front_of_written}
 
 -- The lines out were written up to the place: each list of lines from there on makes a whole with them.
 pub record Onto (tape : List ℕ) (h : History) (place : ℕ) (out : List ℕ) : Type 0 where
@@ -29,7 +29,7 @@ onto_more {tape} {place} {n} {len} {j} {j'} {line} {line'} {out} t k =
     let h : History = of_journal j in
     let f : Found = found_at tape place in
     let s = some_at h tape place n len f t.answers in
-    let text : take len line' ≡ line_of h f = ap (take len) t.writes ∙ take_at (line_of h f) (drop (0 + length (line_of h f)) line) len (sym s.2) in
+    let text : take len line' ≡ line_of h f = ap (take len) t.writes ∙ front_of_written line (line_of h f) len s.2 in
     record { whole = λ rest l. rw (append_assoc, text) (k.whole (line_of h f ++ rest) (played h place rest s.0 (rw (t.records, s.1) at l))) }
 
 -- A tape calls for one list of lines.

@@ -5,7 +5,7 @@ use Rattle.journal.specs.Refusals.{refusal_number}
 use Rattle.tape.specs.declared.decoding.Fault.{Fault}
 
 -- The bytes xs after the text was written over them from a place on.
-abbrev pub written : List ℕ → ℕ → List ℕ → List ℕ
+unfoldable pub written : List ℕ → ℕ → List ℕ → List ℕ
 written xs at text = take at xs ++ (text ++ drop (at + length text) xs)
 
 -- The number of an answer, or ! and that of a refusal.

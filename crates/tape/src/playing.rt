@@ -2,12 +2,13 @@ ghost use Rattle.tape.specs.Playing.{Onward, Played};
 
 use crate::decoding::{Record, decode};
 use crate::limits::{LINE_ROOM, LONGEST_TAPE};
-use crate::line::{answer_line, fault_line};
+use crate::line::{write_answer, write_fault};
 use journal::{Journal, Refusal};
 
 /// Plays the record at a place of the tape: makes its call, writes its line, and gives the place
 /// of the next record and the length of the line, or nothing at the tape's end.
 // The buffer is the caller's, with the length of what is in it handed back, by the rules of playing.
+#[tactic(auto, using(crate::proofs::Texts::written_none))]
 pub fn play(
     journal: &mut Journal,
     tape: &[u8],
@@ -23,14 +24,13 @@ pub fn play(
     if tape.len() > LONGEST_TAPE || place > tape.len() {
         return Err(Refusal::NoSuchPlace);
     }
-    let (next, text) = match decode(tape, place) {
-        Ok(None) => return Ok(None),
+    match decode(tape, place) {
+        Ok(None) => Ok(None),
         Ok(Some(Record { request, size })) => {
             let answer = request.carry_out(journal);
-            (place + size, answer_line(request.letter(), answer))
+            let length = write_answer(line, request.letter(), answer);
+            Ok(Some((place + size, length)))
         }
-        Err(fault) => (tape.len(), fault_line(fault)),
-    };
-    line[..text.len()].copy_from_slice(text.as_bytes());
-    Ok(Some((next, text.len())))
+        Err(fault) => Ok(Some((tape.len(), write_fault(line, fault)))),
+    }
 }

@@ -1,6 +1,8 @@
 ghost use Rattle.journal.specs.Calls.{of_journal};
 ghost use Rattle.levels.specs.Axioms.{Causal as SightCausal};
-ghost use Rattle.levels.specs.Rule.{causal};
+ghost use Rattle.levels.specs.Numbers.{HoldsExactly};
+ghost use Rattle.levels.specs.Rule.{causal, linked, past};
+ghost use Rattle.levels.specs.Runs.{Closed};
 ghost use Rattle.levels.specs.Visibility.{ShowsFirst};
 ghost use Rattle.levels.specs.Causality.{causal_tells};
 ghost use Rattle.levels.specs.Sharing.{causal_local, causal_thinned};
@@ -12,7 +14,8 @@ use journal::{Journal, OuterRead};
 
 /// The direct dependencies of the last member, and of each member among them, by one backward pass.
 fn causal_past(journal: &Journal, run: &[u8]) -> Numbers
-    ensures { ShowsFirst causal (of_journal journal.now) run.now result }
+    ensures linked { Closed (of_journal journal.now) run.now → HoldsExactly result (λ u. linked (of_journal journal.now) u (past (of_journal journal.now) run.now)) }
+    ensures shows { ShowsFirst causal (of_journal journal.now) run.now result }
 {
     let [earlier @ .., last] = run else {
         return Numbers::none();

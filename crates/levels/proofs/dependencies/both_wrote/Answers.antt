@@ -8,4 +8,4 @@ use Rattle.levels.proofs.dependencies.both_wrote.Goals as goal
 pub returns-in_default : goal.returns-in_default
 returns-in_default c =
     let h = of_journal c.args.journal.now in
-    sym (some_none (λ r. wrote h c.args.u r && wrote h c.args.t r) 64 (λ r. and_right (wrote h c.args.u r) _ (ap (λ t. get_or (rows_in t) r false) (sym c.in_default.ensures'))))
+    sym (some_none (λ r. wrote h c.args.u r && wrote h c.args.t r) 64 (λ r. and_right (wrote h c.args.u r) _ (ap (λ t. get_or (rows_in t) r false) (sym c.in_default.ensures))))

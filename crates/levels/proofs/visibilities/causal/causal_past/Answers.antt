@@ -1,11 +1,11 @@
-use Rattle.std.proofs.Common.{◌≡◌, ◌||◌, ◌-◌, [], ◌∷◌, ◌++◌, length, take, sym, ap, ◌∙◌}
+use Rattle.std.proofs.Common.{◌≡◌, ℕ, ◌||◌, ◌-◌, List, [], ◌∷◌, ◌++◌, length, take, sym, ap, ◌∙◌, subst}
 use mathlib.Core.Bool.{or-false, or_comm}
 use mathlib.Core.List.{append-nil}
 use Rattle.journal.specs.Calls.{of_journal}
 use Rattle.levels.specs.Rule.{causal, linked, past}
-use Rattle.levels.specs.Runs.{member, last}
+use Rattle.levels.specs.Runs.{member, last, Closed}
 use Rattle.levels.specs.Tests.{direct}
-use Rattle.levels.proofs.Asking.{shows_run}
+use Rattle.levels.proofs.Asking.{front_last, shows_run}
 use Rattle.levels.proofs.Backward.{all_gone, turned, passed_fits, pass_adds, pass_skips}
 use Rattle.levels.proofs.visibilities.causal.causal_past.Goals as goal
 
@@ -61,6 +61,14 @@ returns c =
     let earlier = take (length run - 1) run in
     let t = last run in
     let gone = c.loop-member.invariant.0 in
-    shows_run causal h run c.loop-member.found c.in-len1-up.len_at_least (λ d j l fits.
-    let u = member (earlier ++ t ∷ []) j in
-    c.loop-member.invariant.2 d u fits ∙ ap (λ xs. linked h u (past h (xs ++ t ∷ []))) (all_gone _ gone earlier c.in-None.ensures.steps.0 c.loop-member.invariant.1))
+    let same = front_last run c.in-len1-up.len_at_least in
+    let all : gone ≡ earlier = all_gone _ gone earlier c.in-None.ensures.steps.0 c.loop-member.invariant.1 in
+    record {
+      linked = λ d n l.
+          c.loop-member.invariant.2 (subst (λ (xs : List ℕ). Closed h xs) (sym same) d) n l
+          ∙ ap (λ xs. linked h n (past h (xs ++ t ∷ []))) all
+          ∙ ap (λ xs. linked h n (past h xs)) same;
+      shows = shows_run causal h run c.loop-member.found c.in-len1-up.len_at_least (λ d j l fits.
+          c.loop-member.invariant.2 d (member (earlier ++ t ∷ []) j) fits
+          ∙ ap (λ xs. linked h (member (earlier ++ t ∷ []) j) (past h (xs ++ t ∷ []))) all);
+    }
