@@ -1,7 +1,7 @@
 -- The limits of playing.
 use Rattle.std.specs.Prelude.{ℕ}
 
--- The fewest bytes that a line buffer may have.
+-- The fewest bytes that a line buffer may have, and the most that a line takes.
 abbrev pub line_room : ℕ
 line_room = 96
 
